@@ -1,0 +1,147 @@
+-- Closed cases that compute, from the definitions that the promises cite: document 01's P2, P3 and P5, the ends of the
+-- calendar, equal ends, nested and touching spans, the largest label and one more, and each of checks 6 to 8.
+-- Assumes nothing.
+use mathlib.Core.Bool.{Bool, true, false}
+use mathlib.Core.List.{List, [], _∷_}
+use mathlib.Core.Path.{_≡_, refl}
+use Prim.Native.Nat.{ℕ}
+use Rattle.lists.specs.Choice.{firstOf}
+use Rattle.interval.specs.Time.{calendarEnd, span, contains, overlap}
+use Rattle.interval.specs.Label.{labelEnd, rank, isLetter, isLabel, labelNumber, numberOrNone, labelCheck, lettersOf}
+use Rattle.interval.specs.Tuple.{itemCheck, validCheck, tupleNumber, legalTuple, rowNumber, legalRow}
+use Rattle.interval.specs.Tuple.{sameInterval, sameTuple}
+use Rattle.interval.specs.declared.time.Interval.{Interval}
+use Rattle.interval.specs.declared.tuple.Tuple.{Tuple}
+use Rattle.interval.specs.declared.tuple.Row.{Row}
+
+-- P2: spans 1–5 and 5–9 overlap in 5–5
+p2 : overlap (span 1 5) (span 5 9) ≡ span 5 5 ∷ []
+unfolding overlap
+p2 = refl
+
+-- P3: 1–5 and 6–9: none
+p3 : overlap (span 1 5) (span 6 9) ≡ []
+unfolding overlap
+p3 = refl
+
+-- two spans and their overlap: nested, equal, with equal firsts, with equal lasts, the first and the last minute of the
+-- calendar, and a span entered backward
+overlaps : List (Interval × Interval × List Interval)
+overlaps =
+    (span 10 50, span 20 30, span 20 30 ∷ [])
+    ∷ ((span 20 30, span 10 50, span 20 30 ∷ [])
+    ∷ ((span 7 9, span 7 9, span 7 9 ∷ [])
+    ∷ ((span 3 8, span 3 5, span 3 5 ∷ [])
+    ∷ ((span 3 8, span 6 8, span 6 8 ∷ [])
+    ∷ ((span 0 0, span 0 99999999, span 0 0 ∷ [])
+    ∷ ((span 99999999 99999999, span 0 99999999, span 99999999 99999999 ∷ [])
+    ∷ ((span 0 0, span 1 1, [])
+    ∷ ((span 9 1, span 0 99999999, [])
+    ∷ []))))))))
+
+-- each of them computes
+Overlaps : List (Interval × Interval × List Interval) → Type 0
+Overlaps [] = Unit {0}
+Overlaps (c ∷ cs) = (overlap (c .0) (c .1) ≡ c .2) × Overlaps cs
+
+overlaps-hold : Overlaps overlaps
+unfolding overlap overlaps Overlaps
+overlaps-hold = (refl, (refl, (refl, (refl, (refl, (refl, (refl, (refl, (refl, tt)))))))))
+
+-- P5: A = 1, Z = 26, AA = 27, AL = 38, ZZZZZZZZ = 217,180,147,158; and the last with three letters and the first with four
+labels : List (List ℕ × ℕ)
+labels =
+    (65 ∷ [], 1)
+    ∷ ((90 ∷ [], 26)
+    ∷ ((65 ∷ (65 ∷ []), 27)
+    ∷ ((65 ∷ (76 ∷ []), 38)
+    ∷ ((90 ∷ (90 ∷ (90 ∷ [])), 18278)
+    ∷ ((65 ∷ (65 ∷ (65 ∷ (65 ∷ []))), 18279)
+    ∷ ((90 ∷ (90 ∷ (90 ∷ (90 ∷ (90 ∷ (90 ∷ (90 ∷ (90 ∷ []))))))), 217180147158)
+    ∷ []))))))
+
+-- each is a label, has that number, and is that number's letters
+Labels : List (List ℕ × ℕ) → Type 0
+Labels [] = Unit {0}
+Labels (c ∷ cs) = (numberOrNone (c .0) ≡ c .1) × (lettersOf (c .1) ≡ c .0) × Labels cs
+
+labels-hold : Labels labels
+unfolding labels Labels rank isLetter isLabel labelNumber numberOrNone lettersOf
+labels-hold =
+    (refl, refl, (refl, refl, (refl, refl, (refl, refl, (refl, refl, (refl, refl, (refl, refl, tt)))))))
+
+-- no label: no letter, nine letters, the bytes before A and after Z, a small letter, a byte above 127
+no-labels : List (List ℕ)
+no-labels =
+    []
+    ∷ ((65 ∷ (65 ∷ (65 ∷ (65 ∷ (65 ∷ (65 ∷ (65 ∷ (65 ∷ (65 ∷ [])))))))))
+    ∷ ((64 ∷ [])
+    ∷ ((91 ∷ [])
+    ∷ ((65 ∷ (97 ∷ []))
+    ∷ ((195 ∷ (132 ∷ []))
+    ∷ [])))))
+
+NoLabels : List (List ℕ) → Type 0
+NoLabels [] = Unit {0}
+NoLabels (c ∷ cs) = (isLabel c ≡ false) × NoLabels cs
+
+no-labels-hold : NoLabels no-labels
+unfolding no-labels NoLabels rank isLetter isLabel
+no-labels-hold = (refl, (refl, (refl, (refl, (refl, (refl, tt))))))
+
+-- one more than the largest label's number, and 0: no letters
+past-labels : (lettersOf 217180147159 ≡ []) × (lettersOf 0 ≡ [])
+unfolding lettersOf
+past-labels = (refl, refl)
+
+-- a tuple of four words, and its number: legal at both ends of each range, and each check at its first illegal value;
+-- the first check that applies answers
+abbrev tuple : ℕ → ℕ → ℕ → ℕ → Tuple
+tuple label item first last = record { label = label; item = item; valid = span first last }
+
+checks : List (Tuple × ℕ)
+checks =
+    (tuple 1 0 0 0, 0)
+    ∷ ((tuple 217180147158 999999 99999999 99999999, 0)
+    ∷ ((tuple 1 0 0 99999999, 0)
+    ∷ ((tuple 0 0 0 0, 6)
+    ∷ ((tuple 217180147159 0 0 0, 6)
+    ∷ ((tuple 1 1000000 0 0, 7)
+    ∷ ((tuple 1 0 1 0, 8)
+    ∷ ((tuple 1 0 0 100000000, 8)
+    ∷ ((tuple 1 0 100000001 100000000, 8)
+    ∷ ((tuple 0 1000000 1 0, 6)
+    ∷ ((tuple 1 1000000 1 0, 7)
+    ∷ []))))))))))
+
+Checks : List (Tuple × ℕ) → Type 0
+Checks [] = Unit {0}
+Checks (c ∷ cs) = (tupleNumber (c .0) ≡ c .1) × Checks cs
+
+checks-hold : Checks checks
+unfolding checks Checks firstOf labelCheck itemCheck validCheck tupleNumber
+checks-hold = (refl, (refl, (refl, (refl, (refl, (refl, (refl, (refl, (refl, (refl, (refl, tt)))))))))))
+
+-- a row is legal by its label, both numbers and its span
+abbrev row : ℕ → ℕ → ℕ → ℕ → ℕ → Row
+row label outer inner first last = record { label = label; outer = outer; inner = inner; valid = span first last }
+
+rows-hold :
+    (legalRow (row 1 999999 999999 0 99999999) ≡ true)
+    × (legalRow (row 0 1 1 0 0) ≡ false)
+    × (legalRow (row 1 1000000 1 0 0) ≡ false)
+    × (legalRow (row 1 1 1000000 0 0) ≡ false)
+    × (legalRow (row 1 1 1 1 0) ≡ false)
+    × (legalRow (row 1 1 1 0 100000000) ≡ false)
+unfolding firstOf labelCheck itemCheck validCheck rowNumber legalRow
+rows-hold = (refl, refl, refl, refl, refl, refl)
+
+-- tuples that differ in one word are not equal
+same-hold :
+    (sameTuple (tuple 1 2 3 4) (tuple 1 2 3 4) ≡ true)
+    × (sameTuple (tuple 1 2 3 4) (tuple 2 2 3 4) ≡ false)
+    × (sameTuple (tuple 1 2 3 4) (tuple 1 3 3 4) ≡ false)
+    × (sameTuple (tuple 1 2 3 4) (tuple 1 2 4 4) ≡ false)
+    × (sameTuple (tuple 1 2 3 4) (tuple 1 2 3 5) ≡ false)
+unfolding sameInterval sameTuple
+same-hold = (refl, refl, refl, refl, refl)

@@ -1,0 +1,158 @@
+-- Laws of tuples and rows: their words there and back; equality in all words is equality; what a legal tuple, a legal row
+-- is, and that such a one passes each check.
+-- Assumes nothing.
+use mathlib.Core.Bool.{Bool, true, false, _&&_, _||_}
+use mathlib.Core.List.{List, [], _∷_}
+use mathlib.Core.Path.{_≡_, refl, sym}
+use Prim.Native.Nat.{ℕ, zero, suc, _≤_, _<_}
+use native.Mathlib.Omega.{arith}
+use lib.ListN.{length, getD}
+use lib.Seq.{ext-getD}
+use lib.Dec.{ltb, eqb}
+use borrow.Author.Tests.{eqb-true, eq-eqb, le-ltb, ltb-false}
+use Rattle.lists.specs.Choice.{firstOf}
+use Rattle.lists.specs.Same.{IsEquality}
+use Rattle.lists.proofs.Choice.{and-left, and-right, and-both, or-none, or-neither-left, or-neither-right}
+use Rattle.lists.proofs.Choice.{refuse-none, refuse-passed, first-none}
+use Rattle.interval.specs.Time.{calendarEnd}
+use Rattle.interval.specs.Label.{labelCheck}
+use Rattle.interval.specs.Tuple.{tupleOf, tupleWords, rowOf, rowWords, itemCheck, validCheck}
+use Rattle.interval.specs.Tuple.{tupleNumber, legalTuple, rowNumber, legalRow, sameInterval, sameTuple, sameRow}
+use Rattle.interval.specs.declared.time.Interval.{Interval}
+use Rattle.interval.specs.declared.tuple.Tuple.{Tuple}
+use Rattle.interval.specs.declared.tuple.Row.{Row}
+
+-- ---- words there and back
+
+pub tuple-of-words : (t : Tuple) → tupleOf (tupleWords t) ≡ t
+tuple-of-words t = refl
+
+pub row-of-words : (r : Row) → rowOf (rowWords r) ≡ r
+row-of-words r = refl
+
+pub words-of-tuple : (ws : List ℕ) → length ws ≡ 4 → tupleWords (tupleOf ws) ≡ ws
+words-of-tuple ws e = ext-getD 0 (tupleWords (tupleOf ws)) ws (sym e) at
+  where
+    at : (i : ℕ) → i < 4 → getD (tupleWords (tupleOf ws)) i 0 ≡ getD ws i 0
+    at zero h = refl
+    at (suc zero) h = refl
+    at (suc (suc zero)) h = refl
+    at (suc (suc (suc zero))) h = refl
+    at (suc (suc (suc (suc i)))) h = absurd (omega arith)
+
+pub words-of-row : (ws : List ℕ) → length ws ≡ 5 → rowWords (rowOf ws) ≡ ws
+words-of-row ws e = ext-getD 0 (rowWords (rowOf ws)) ws (sym e) at
+  where
+    at : (i : ℕ) → i < 5 → getD (rowWords (rowOf ws)) i 0 ≡ getD ws i 0
+    at zero h = refl
+    at (suc zero) h = refl
+    at (suc (suc zero)) h = refl
+    at (suc (suc (suc zero))) h = refl
+    at (suc (suc (suc (suc zero)))) h = refl
+    at (suc (suc (suc (suc (suc i))))) h = absurd (omega arith)
+
+-- ---- equality
+
+-- a test that a first word and the rest are equal
+both-equal : (m n : ℕ) (rest : Bool) → (eqb m n && rest) ≡ true → (m ≡ n) × (rest ≡ true)
+both-equal m n rest h = (eqb-true m n (and-left (eqb m n) rest h), and-right (eqb m n) rest h)
+
+equal-both : (m : ℕ) (rest : Bool) → rest ≡ true → (eqb m m && rest) ≡ true
+equal-both m rest h = and-both (eqb m m) rest (eq-eqb m m refl) h
+
+pub same-interval-is : IsEquality sameInterval
+unfolding sameInterval
+same-interval-is = record {
+  equal = λ v w h.
+      let p = both-equal (v .first .0) (w .first .0) (eqb (v .last .0) (w .last .0)) h in
+      let q : v .last .0 ≡ w .last .0 = eqb-true (v .last .0) (w .last .0) (p .1) in
+      (λ i. record { first = record { 0 = p .0 i }; last = record { 0 = q i } });
+  itself = λ v. equal-both (v .first .0) (eqb (v .last .0) (v .last .0)) (eq-eqb (v .last .0) (v .last .0) refl);
+}
+
+pub same-tuple-is : IsEquality sameTuple
+unfolding sameTuple
+same-tuple-is = record {
+  equal = λ t u h.
+      let p = both-equal (t .label) (u .label) (eqb (t .item) (u .item) && sameInterval (t .valid) (u .valid)) h in
+      let q = both-equal (t .item) (u .item) (sameInterval (t .valid) (u .valid)) (p .1) in
+      let v = same-interval-is .equal (t .valid) (u .valid) (q .1) in
+      (λ i. record { label = p .0 i; item = q .0 i; valid = v i });
+  itself = λ t.
+      equal-both (t .label) (eqb (t .item) (t .item) && sameInterval (t .valid) (t .valid))
+      (equal-both (t .item) (sameInterval (t .valid) (t .valid)) (same-interval-is .itself (t .valid)));
+}
+
+pub same-row-is : IsEquality sameRow
+unfolding sameRow
+same-row-is = record {
+  equal = λ r s h.
+      let p =
+      both-equal (r .label) (s .label)
+      (eqb (r .outer) (s .outer) && (eqb (r .inner) (s .inner) && sameInterval (r .valid) (s .valid))) h in
+      let q =
+      both-equal (r .outer) (s .outer) (eqb (r .inner) (s .inner) && sameInterval (r .valid) (s .valid)) (p .1) in
+      let o = both-equal (r .inner) (s .inner) (sameInterval (r .valid) (s .valid)) (q .1) in
+      let v = same-interval-is .equal (r .valid) (s .valid) (o .1) in
+      (λ i. record { label = p .0 i; outer = q .0 i; inner = o .0 i; valid = v i });
+  itself = λ r.
+      equal-both (r .label)
+      (eqb (r .outer) (r .outer) && (eqb (r .inner) (r .inner) && sameInterval (r .valid) (r .valid)))
+      (equal-both (r .outer) (eqb (r .inner) (r .inner) && sameInterval (r .valid) (r .valid))
+      (equal-both (r .inner) (sameInterval (r .valid) (r .valid)) (same-interval-is .itself (r .valid))));
+}
+
+-- ---- an interval that passes check 8
+
+pub valid-ok : (v : Interval) → validCheck v ≡ 0 → (v .first .0 ≤ v .last .0) × (v .last .0 ≤ calendarEnd)
+unfolding validCheck
+valid-ok v e =
+    let h = refuse-none (ltb (v .last .0) (v .first .0) || ltb calendarEnd (v .last .0)) 7 e in (
+      ltb-false (v .last .0) (v .first .0) (or-neither-left (ltb (v .last .0) (v .first .0)) (ltb calendarEnd (v .last .0)) h),
+      ltb-false calendarEnd (v .last .0) (or-neither-right (ltb (v .last .0) (v .first .0)) (ltb calendarEnd (v .last .0)) h),
+    )
+
+pub ok-valid : (v : Interval) → v .first .0 ≤ v .last .0 → v .last .0 ≤ calendarEnd → validCheck v ≡ 0
+unfolding validCheck
+ok-valid v lo hi =
+    refuse-passed (ltb (v .last .0) (v .first .0) || ltb calendarEnd (v .last .0)) 8
+    (or-none (ltb (v .last .0) (v .first .0)) (ltb calendarEnd (v .last .0)) (le-ltb (v .last .0) (v .first .0) lo)
+    (le-ltb calendarEnd (v .last .0) hi))
+
+-- ---- a legal tuple, a legal row
+
+pub record LegalTuple (t : Tuple) : Type 0 where
+  pub label : labelCheck (t .label) ≡ 0
+  pub item : itemCheck (t .item) ≡ 0
+  pub valid : validCheck (t .valid) ≡ 0
+
+pub legal-tuple : (t : Tuple) → legalTuple t ≡ true → LegalTuple t
+unfolding legalTuple tupleNumber
+legal-tuple t h =
+    let a = first-none (labelCheck (t .label)) _ (eqb-true (tupleNumber t) 0 h) in
+    let b = first-none (itemCheck (t .item)) _ (a .1) in
+    let c = first-none (validCheck (t .valid)) _ (b .1) in
+    record { label = a .0; item = b .0; valid = c .0 }
+
+pub tuple-legal : (t : Tuple) → LegalTuple t → legalTuple t ≡ true
+unfolding legalTuple tupleNumber firstOf
+tuple-legal t l = rw (l .label, l .item, l .valid)
+
+pub record LegalRow (r : Row) : Type 0 where
+  pub label : labelCheck (r .label) ≡ 0
+  pub outer : itemCheck (r .outer) ≡ 0
+  pub inner : itemCheck (r .inner) ≡ 0
+  pub valid : validCheck (r .valid) ≡ 0
+
+pub legal-row : (r : Row) → legalRow r ≡ true → LegalRow r
+unfolding legalRow rowNumber
+legal-row r h =
+    let a = first-none (labelCheck (r .label)) _ (eqb-true (rowNumber r) 0 h) in
+    let b = first-none (itemCheck (r .outer)) _ (a .1) in
+    let c = first-none (itemCheck (r .inner)) _ (b .1) in
+    let d = first-none (validCheck (r .valid)) _ (c .1) in
+    record { label = a .0; outer = b .0; inner = c .0; valid = d .0 }
+
+pub row-legal : (r : Row) → LegalRow r → legalRow r ≡ true
+unfolding legalRow rowNumber firstOf
+row-legal r l = rw (l .label, l .outer, l .inner, l .valid)

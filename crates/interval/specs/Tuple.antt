@@ -1,0 +1,88 @@
+-- Tuples and rows: their words, their checks, their equality.
+-- The laws are in proofs/Tuples.antt.
+use mathlib.Core.Bool.{Bool, _&&_, _||_}
+use mathlib.Core.List.{List, [], _∷_}
+use Prim.Native.Nat.{ℕ}
+use lib.ListN.{getD}
+use lib.Dec.{ltb, eqb}
+use Rattle.lists.specs.Choice.{refuseIf, firstOf}
+use Rattle.interval.specs.Time.{calendarEnd, span}
+use Rattle.interval.specs.Label.{labelCheck}
+use Rattle.interval.specs.declared.time.Interval.{Interval}
+use Rattle.interval.specs.declared.tuple.Tuple.{Tuple}
+use Rattle.interval.specs.declared.tuple.Row.{Row}
+
+-- the largest item number: "a drawing's number or a spot's"
+abbrev pub itemEnd : ℕ
+itemEnd = 999999
+
+-- the first and the last chronon of a tuple, and the last of a row
+abbrev pub from : Tuple → ℕ
+from t = t .valid .first .0
+
+abbrev pub to : Tuple → ℕ
+to t = t .valid .last .0
+
+abbrev pub rowTo : Row → ℕ
+rowTo r = r .valid .last .0
+
+-- "A tuple is four 64-bit words: label number, item number, first minute, last minute."
+abbrev pub tupleWidth : ℕ
+tupleWidth = 4
+
+abbrev pub tupleWords : Tuple → List ℕ
+tupleWords t = t .label ∷ (t .item ∷ (t .valid .first .0 ∷ (t .valid .last .0 ∷ [])))
+
+abbrev pub tupleOf : List ℕ → Tuple
+tupleOf ws = record { label = getD ws 0 0; item = getD ws 1 0; valid = span (getD ws 2 0) (getD ws 3 0) }
+
+-- "A row is five: label, drawing number, spot number, first, last."
+abbrev pub rowWidth : ℕ
+rowWidth = 5
+
+abbrev pub rowWords : Row → List ℕ
+rowWords r = r .label ∷ (r .outer ∷ (r .inner ∷ (r .valid .first .0 ∷ (r .valid .last .0 ∷ []))))
+
+abbrev pub rowOf : List ℕ → Row
+rowOf ws = record {
+  label = getD ws 0 0;
+  outer = getD ws 1 0;
+  inner = getD ws 2 0;
+  valid = span (getD ws 3 0) (getD ws 4 0);
+}
+
+-- check 7: item number above 999,999
+unfoldable pub itemCheck : ℕ → ℕ
+itemCheck n = refuseIf (ltb itemEnd n) 7
+
+-- check 8: first after last, or last above 99,999,999
+unfoldable pub validCheck : Interval → ℕ
+validCheck v = refuseIf (ltb (v .last .0) (v .first .0) || ltb calendarEnd (v .last .0)) 8
+
+-- checks 6 to 8 of a tuple, in that order
+unfoldable pub tupleNumber : Tuple → ℕ
+tupleNumber t = firstOf (labelCheck (t .label) ∷ (itemCheck (t .item) ∷ (validCheck (t .valid) ∷ [])))
+
+-- "A tuple is legal if none of 6 to 8 below applies to it."
+unfoldable pub legalTuple : Tuple → Bool
+legalTuple t = eqb (tupleNumber t) 0
+
+-- "A row is legal if its label, both numbers and its span are."
+unfoldable pub rowNumber : Row → ℕ
+rowNumber r =
+    firstOf (labelCheck (r .label) ∷ (itemCheck (r .outer) ∷ (itemCheck (r .inner) ∷ (validCheck (r .valid) ∷ []))))
+
+unfoldable pub legalRow : Row → Bool
+legalRow r = eqb (rowNumber r) 0
+
+-- equal in all words
+unfoldable pub sameInterval : Interval → Interval → Bool
+sameInterval a b = eqb (a .first .0) (b .first .0) && eqb (a .last .0) (b .last .0)
+
+unfoldable pub sameTuple : Tuple → Tuple → Bool
+sameTuple t u = eqb (t .label) (u .label) && (eqb (t .item) (u .item) && sameInterval (t .valid) (u .valid))
+
+unfoldable pub sameRow : Row → Row → Bool
+sameRow r s =
+    eqb (r .label) (s .label)
+    && (eqb (r .outer) (s .outer) && (eqb (r .inner) (s .inner) && sameInterval (r .valid) (s .valid)))

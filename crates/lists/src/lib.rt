@@ -1,0 +1,1 @@
+// Laws of plain lists; no code. The definitions are in specs/, their laws in proofs/.
