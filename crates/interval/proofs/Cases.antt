@@ -1,5 +1,6 @@
 -- Closed cases that compute, from the definitions that the promises cite: document 01's P2, P3 and P5, the ends of the
--- calendar, equal ends, nested and touching spans, the largest label and one more, and each of checks 6 to 8.
+-- calendar, equal ends, nested and touching spans, the largest label and one more, each of checks 6 to 8, equality in all
+-- words, and the order of a record's words.
 -- Assumes nothing.
 use mathlib.Core.Bool.{Bool, true, false}
 use mathlib.Core.List.{List, [], _∷_}
@@ -9,7 +10,7 @@ use Rattle.lists.specs.Choice.{firstOf}
 use Rattle.interval.specs.Time.{calendarEnd, span, contains, overlap}
 use Rattle.interval.specs.Label.{labelEnd, rank, isLetter, isLabel, labelNumber, numberOrNone, labelCheck, lettersOf}
 use Rattle.interval.specs.Tuple.{itemCheck, validCheck, tupleNumber, legalTuple, rowNumber, legalRow}
-use Rattle.interval.specs.Tuple.{sameInterval, sameTuple}
+use Rattle.interval.specs.Tuple.{sameInterval, sameTuple, sameRow, tupleWords, tupleOf, rowWords, rowOf}
 use Rattle.interval.specs.declared.time.Interval.{Interval}
 use Rattle.interval.specs.declared.tuple.Tuple.{Tuple}
 use Rattle.interval.specs.declared.tuple.Row.{Row}
@@ -145,3 +146,22 @@ same-hold :
     × (sameTuple (tuple 1 2 3 4) (tuple 1 2 3 5) ≡ false)
 unfolding sameInterval sameTuple
 same-hold = (refl, refl, refl, refl, refl)
+
+-- so are rows that differ in one word
+same-rows-hold :
+    (sameRow (row 1 2 3 4 5) (row 1 2 3 4 5) ≡ true)
+    × (sameRow (row 1 2 3 4 5) (row 2 2 3 4 5) ≡ false)
+    × (sameRow (row 1 2 3 4 5) (row 1 3 3 4 5) ≡ false)
+    × (sameRow (row 1 2 3 4 5) (row 1 2 4 4 5) ≡ false)
+    × (sameRow (row 1 2 3 4 5) (row 1 2 3 5 5) ≡ false)
+    × (sameRow (row 1 2 3 4 5) (row 1 2 3 4 6) ≡ false)
+unfolding sameInterval sameRow
+same-rows-hold = (refl, refl, refl, refl, refl, refl)
+
+-- the words of a tuple and of a row, in document 01's order, there and back
+words-hold :
+    (tupleWords (tuple 38 10 30 31) ≡ 38 ∷ (10 ∷ (30 ∷ (31 ∷ []))))
+    × (tupleOf (38 ∷ (10 ∷ (30 ∷ (31 ∷ [])))) ≡ tuple 38 10 30 31)
+    × (rowWords (row 38 10 1 30 31) ≡ 38 ∷ (10 ∷ (1 ∷ (30 ∷ (31 ∷ [])))))
+    × (rowOf (38 ∷ (10 ∷ (1 ∷ (30 ∷ (31 ∷ []))))) ≡ row 38 10 1 30 31)
+words-hold = (refl, refl, refl, refl)

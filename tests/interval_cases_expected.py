@@ -1,0 +1,50 @@
+# What the program interval_cases must write, worked out from document 01 alone: python3 this > stdout.
+# Sets of minutes, words of letters in order, and lists of conditions; nothing is taken from the program.
+from itertools import product, islice
+import string
+
+A = string.ascii_uppercase
+
+def in_order():
+    n = 1
+    while True:
+        for w in product(A, repeat=n):
+            yield ''.join(w)
+        n += 1
+
+spans = [set(range(f, l + 1)) for f in range(13) for l in range(13)]
+pairs = [a & b for a in spans for b in spans]
+print(f'overlap,{len(pairs)},0,{sum(1 for p in pairs if p)}')
+
+# the number of a label is its place in the order of all labels
+words = list(islice(in_order(), 20000))
+assert words[:3] == ['A', 'B', 'C'] and words[26] == 'AA' and words[18278] == 'AAAA'
+print(f'labels,{len(words)},0')
+
+upto = [sum(26 ** i for i in range(1, k + 1)) for k in range(9)]
+assert upto[8] == 217180147158
+print('ends,5,0')
+
+good = [b for b in range(256) if bytes([b]).decode('latin-1') in A]
+print(f'bytes,256,0,{len(good)},{256 - len(good)}')
+
+twos = [bytes(p) for p in product(range(256), repeat=2)]
+good = [t for t in twos if all(c in A for c in t.decode('latin-1'))]
+print(f'twos,{len(twos)},0,{len(good)},{len(twos) - len(good)}')
+
+fit = [n for n in range(11) if 1 <= n <= 8]
+print(f'lengths,11,0,{len(fit)},{11 - len(fit)}')
+
+big = 2 ** 64 - 1
+labels = [0, 1, upto[8], upto[8] + 1, big]
+items = [0, 999999, 1000000, big]
+minutes = [0, 1, 99999998, 99999999, 100000000, big]
+answers = {0: 0, 6: 0, 7: 0, 8: 0}
+for l, i, f, t in product(labels, items, minutes, minutes):
+    hits = [n for n, legal in ((6, l in range(1, upto[8] + 1)), (7, i in range(0, 10 ** 6)),
+                               (8, f <= t and t in range(0, 10 ** 8))) if not legal]
+    answers[min(hits, default=0)] += 1
+print('tuples,%d,0,%d,%d,%d,%d' % (sum(answers.values()), answers[0], answers[6], answers[7], answers[8]))
+# for the program's table of rows of Z
+import sys
+print(upto[1:], file=sys.stderr)
