@@ -102,17 +102,6 @@ pub read-accepted : (bs : List ℕ) (n : ℕ) → n ≡ numberOrNone bs → (n �
 read-accepted bs n e z = ⊎-elim (λ p. record { number = rw (p .0); label = e }) (λ p. absurd (omega arith))
     (label-or-none bs)
 
--- ---- the first bytes of a list, read one by one
-
-abbrev firsts : ℕ → ℕ → List ℕ → List ℕ
-firsts zero i xs = []
-firsts (suc n) i xs = getD xs i 0 ∷ firsts n (suc i) xs
-
-pub firsts-are : (n i : ℕ) (xs : List ℕ) → i + n ≤ length xs → firsts n i xs ≡ take n (drop i xs)
-firsts-are zero i xs h = refl
-firsts-are (suc n) i xs h =
-    rw (drop-cons xs i 0 (omega arith)) (ap (λ (ys : List ℕ). getD xs i 0 ∷ ys) (firsts-are n (suc i) xs (omega arith)))
-
 -- ---- writing: the letters in hand are the first `count` bytes, zeros after them, and n has the letters before them
 
 pub record Written (number : ℕ) (bytes : List ℕ) (count n : ℕ) : Type 0 where

@@ -1,6 +1,6 @@
 -- Laws of upFrom and below (specs/Members): rising numbers.
 -- In order: length and members; the next number, the end, a cut, the last number; tests of the numbers below n;
--- functions that agree below n; functions that give nothing at every number below n but one.
+-- functions that agree below n; functions that give nothing at every number below n but one, or more at one.
 use mathlib.Core.Bool.{Bool, true, false}
 use mathlib.Core.List.{List, [], _∷_, _++_, map, append-nil}
 use mathlib.Core.Logic.{_⊎_, inl, inr}
@@ -11,12 +11,12 @@ use native.Mathlib.Numerals.{add-one}
 use native.Mathlib.Omega.{arith}
 use lib.Dec.{eqb}
 use lib.ListN.{length, getD}
-use borrow.Author.Tests.{eqb-true, eqb-false, ne-eqb}
+use borrow.Author.Tests.{eqb-true, eqb-false, eq-eqb, ne-eqb}
 use Rattle.lists.specs.Choice.{pick}
 use Rattle.lists.specs.Members.{all, any, keep, total, gather, placeOf, upFrom, below}
 use Rattle.lists.proofs.Choice.{bool-cases, or-left, or-right}
 use Rattle.lists.proofs.Members.{all-map, all-getD, getD-all}
-use Rattle.lists.proofs.Tally.{total-map, total-keep, place-found, place-is}
+use Rattle.lists.proofs.Tally.{total-add, total-map, total-keep, place-found, place-is}
 use Rattle.lists.proofs.Gather.{gather-map, gather-pick}
 
 -- how many they are
@@ -142,3 +142,21 @@ pub total-one : (f : ℕ → ℕ) (n i : ℕ) → i < n → ((j : ℕ) → j < n
 total-one f n i l h =
     total-cong-below f (λ j. pick (eqb j i) (f j) 0) n (λ j m. picked f 0 i j (h j m))
     ∙ sym (total-keep f (λ j. eqb j i) (below n)) ∙ rw (keep-up i 0 n (omega arith) (omega arith)) (add-zero (f i))
+
+-- a function that gives c more at i, and the same elsewhere
+pub total-more : (f g : ℕ → ℕ) (n i c : ℕ) → i < n → ((j : ℕ) → j < n → (j ≡ i → ⊥) → g j ≡ f j) → g i ≡ c + f i
+    → total g (below n) ≡ c + total f (below n)
+total-more f g n i c l h e =
+    total-cong-below g (λ j. pick (eqb j i) c 0 + f j) n at
+    ∙ total-add (λ j. pick (eqb j i) c 0) f (below n)
+    ∙ ap (λ (m : ℕ). m + total f (below n)) (total-one (λ j. pick (eqb j i) c 0) n i l none ∙ rw (eq-eqb i i refl))
+  where
+    none : (j : ℕ) → j < n → (j ≡ i → ⊥) → pick (eqb j i) c 0 ≡ 0
+    none j m ne = rw (ne-eqb j i ne)
+
+    at : (j : ℕ) → j < n → g j ≡ pick (eqb j i) c 0 + f j
+    at j m = go (bool-cases (eqb j i))
+      where
+        go : (eqb j i ≡ true) ⊎ (eqb j i ≡ false) → g j ≡ pick (eqb j i) c 0 + f j
+        go (inl q) = rw (q, eqb-true j i q) e
+        go (inr q) = rw (q, zero-add) (h j m (eqb-false j i q))

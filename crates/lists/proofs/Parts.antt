@@ -208,3 +208,21 @@ module _ {A : Type 0} where
 
       rest : (i : ℕ) → i < n → partAt (i * size) size (drop size xs) ≡ partAt (i * size) size (drop size ys)
       rest i b = next xs i ∙ same (suc i) (omega arith) ∙ sym (next ys i)
+
+-- ---- a part's members, read one by one from place a + j on
+
+abbrev pub readsFrom : {A : Type 0} → ℕ → ℕ → ℕ → A → List A → List A
+readsFrom zero a j d xs = []
+readsFrom (suc n) a j d xs = getD xs (a + j) d ∷ readsFrom n a (suc j) d xs
+
+pub reads-are : {A : Type 0} (n a j : ℕ) (d : A) (xs : List A) → a + j + n ≤ length xs
+    → readsFrom n a j d xs ≡ partAt (a + j) n xs
+reads-are zero a j d xs h = refl
+reads-are {A} (suc n) a j d xs h =
+    let next : a + suc j ≡ suc (a + j) = omega arith in
+    rw (drop-cons xs (a + j) d (omega arith))
+    (ap (λ (ys : List A). getD xs (a + j) d ∷ ys) (rw next at (reads-are n a (suc j) d xs (omega arith))))
+
+pub reads-part : {A : Type 0} (n a : ℕ) (d : A) (xs : List A) → a + n ≤ length xs → readsFrom n a 0 d xs ≡ partAt a n xs
+reads-part {A} n a d xs h =
+    reads-are n a 0 d xs (omega arith) ∙ ap (λ (b : ℕ). partAt b n xs) (add-zero a)

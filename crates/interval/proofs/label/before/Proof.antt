@@ -3,7 +3,7 @@
 use mathlib.Core.Path.{ap}
 use mathlib.Core.List.{List, _∷_}
 use Prim.Native.Nat.{ℕ}
-use Rattle.interval.proofs.Letters.{firsts-are}
+use Rattle.lists.proofs.Parts.{reads-are}
 use native.Mathlib.Omega.{arith}
 use borrow.Author.Needs.{needs}
 use Rattle.interval.proofs.label.before.Statement.{statement}
@@ -31,7 +31,7 @@ array-read-t24 : tie.Need-array-read-t24
 array-read-t24 c = search needs
 
 returns : tie.Need-returns
-returns c = ap (λ (l : List ℕ). c .args .b ∷ l) (firsts-are 7 0 (c .args .t2) (omega arith))
+returns c = ap (λ (l : List ℕ). c .args .b ∷ l) (reads-are 7 0 0 0 (c .args .t2) (omega arith))
 
 pub before-spec : {M : Type 1} → statement M
 before-spec =

@@ -1,0 +1,108 @@
+-- The loops of `partition::part`, over any list and any test.
+-- In order: `Tallied`, k members are seen and n of them pass, with its laws; `Passed`, no member before place k passes,
+-- with its laws; `Cleared`, the words before place i are 0, with its laws.
+-- Assumes nothing.
+use mathlib.Core.Bool.{Bool, true, false}
+use mathlib.Core.List.{List, _++_, append-nil}
+use mathlib.Core.Path.{_≡_, sym, ap, _∙_}
+use Prim.Native.Nat.{ℕ, suc, _+_, _≤_, _<_}
+use native.Mathlib.Nat.{add-zero}
+use native.Mathlib.Numerals.{add-one}
+use native.Mathlib.Omega.{arith}
+use borrow.Author.Fill.{fill-none, fill-more}
+use lib.ListN.{length, getD, drop, set, replicate, length-append, length-replicate, length-drop, drop-of-length-le}
+use lib.Seq.{drop-cons}
+use Rattle.lists.specs.Choice.{pick}
+use Rattle.lists.specs.Members.{tally, placeOf}
+use Rattle.lists.proofs.Tally.{tally-end, tally-next, tally-le}
+
+-- ---- counting the members that pass: k are seen, n of them pass
+
+pub record Tallied {A : Type 0} (p : A → Bool) (xs : List A) (k n : ℕ) : Type 0 where
+  pub within : k ≤ length xs
+  pub found : n + tally p (drop k xs) ≡ tally p xs
+
+-- a turn, by what the test answers at place k
+pub record TallyTurn {A : Type 0} (p : A → Bool) (xs : List A) (k n : ℕ) (answer : Bool) : Type 0 where
+  pub more : answer ≡ true → Tallied p xs (k + 1) (n + 1)
+  pub same : answer ≡ false → Tallied p xs (k + 1) n
+
+module _ {A : Type 0} (p : A → Bool) (xs : List A) where
+  pub tallied-none : Tallied p xs 0 0
+  tallied-none = record { within = omega arith; found = omega arith }
+
+  -- the member at place k is x, and the test is asked of it
+  pub tallied-turn : (k n : ℕ) (x : A) (answer : Bool) → k < length xs → getD xs k x ≡ x → answer ≡ p x
+      → Tallied p xs k n → TallyTurn p xs k n answer
+  tallied-turn k n x answer h at e s = record {
+    more = λ q. rw (sym e ∙ q) at next;
+    same = λ q. rw (sym e ∙ q, add-zero) at next;
+  }
+    where
+      next : Tallied p xs (k + 1) (n + pick (p x) 1 0)
+      next = record { within = omega arith; found = omega (arith, s .found, rw at at (tally-next p xs k x h)) }
+
+  -- no more pass than there are
+  pub tallied-most : (k n : ℕ) → Tallied p xs k n → n ≤ length xs
+  tallied-most k n s = omega (arith, s .found, tally-le p xs)
+
+  -- all are seen
+  pub tallied-all : (k n : ℕ) → length xs ≤ k → Tallied p xs k n → n ≡ tally p xs
+  tallied-all k n h s = omega (arith, s .found, tally-end p xs k h)
+
+-- ---- finding the first member that passes: none before place k does
+
+pub record Passed {A : Type 0} (p : A → Bool) (xs : List A) (k : ℕ) : Type 0 where
+  pub within : k ≤ length xs
+  pub place : placeOf p xs ≡ k + placeOf p (drop k xs)
+
+-- a turn, by what the test answers at place k
+pub record PlaceTurn {A : Type 0} (p : A → Bool) (xs : List A) (k : ℕ) (answer : Bool) : Type 0 where
+  pub here : answer ≡ true → k ≡ placeOf p xs
+  pub more : answer ≡ false → Passed p xs (k + 1)
+
+module _ {A : Type 0} (p : A → Bool) (xs : List A) where
+  pub passed-none : Passed p xs 0
+  passed-none = record { within = omega arith; place = omega arith }
+
+  -- the member at place k is x, and the test is asked of it
+  pub passed-turn : (k : ℕ) (x : A) (answer : Bool) → k < length xs → getD xs k x ≡ x → answer ≡ p x → Passed p xs k
+      → PlaceTurn p xs k answer
+  passed-turn k x answer h at e s = record {
+    here = λ q. omega (arith, s .place, rw (sym e ∙ q) at next);
+    more = λ q. record { within = omega arith; place = omega (arith, s .place, rw (sym e ∙ q) at next) };
+  }
+    where
+      next : placeOf p (drop k xs) ≡ pick (p x) 0 (suc (placeOf p (drop (k + 1) xs)))
+      next = rw (add-one, drop-cons xs k x h, at)
+
+  -- none passes
+  pub passed-all : (k : ℕ) → length xs ≤ k → Passed p xs k → k ≡ placeOf p xs
+  passed-all k h s = omega (arith, s .place, s .within, ap (placeOf p) (drop-of-length-le xs h))
+
+-- ---- clearing: the words before place i are 0, the others as they were
+
+pub record Cleared (whole : List ℕ) (i : ℕ) (words : List ℕ) : Type 0 where
+  pub within : i ≤ length whole
+  pub holds : words ≡ replicate i 0 ++ drop i whole
+
+module _ (whole : List ℕ) where
+  pub cleared-none : Cleared whole 0 whole
+  cleared-none = record { within = omega arith; holds = fill-none whole 0 }
+
+  pub cleared-more : (i : ℕ) (words : List ℕ) → i < length whole → Cleared whole i words
+      → Cleared whole (i + 1) (set words i 0)
+  cleared-more i words h s = record {
+    within = omega arith;
+    holds = rw (s .holds) (fill-more i 0 whole h);
+  }
+
+  pub cleared-length : (i : ℕ) (words : List ℕ) → Cleared whole i words → length words ≡ length whole
+  cleared-length i words s =
+      ap length (s .holds) ∙ simp (length-append, length-replicate, length-drop) (omega (arith, s .within))
+
+  pub cleared-all : (i : ℕ) (words : List ℕ) → length whole ≤ i → Cleared whole i words
+      → words ≡ replicate (length whole) 0
+  cleared-all i words h s =
+      let end : i ≡ length whole = omega arith in
+      s .holds ∙ rw (drop-of-length-le whole h, append-nil, end)

@@ -1,0 +1,511 @@
+-- Laws of one partition as words (specs/Part), over the width w of a record.
+-- In order: runs of stores and the room of records; the part after an append and after a removal, as its count word and
+-- the words after it; the stores of a removal; lengths and counts; each record, no records, the records after an append
+-- and after a removal; the same of tuples and of rows, and their words; what a sound part is, and that it stays sound;
+-- an empty part; the place that a removal frees.
+-- Assumes nothing.
+use mathlib.Core.Bool.{Bool, true}
+use mathlib.Core.List.{List, [], _∷_, _++_, map, map-append}
+use mathlib.Core.Path.{_≡_, refl, sym, ap, _∙_}
+use Prim.Native.Nat.{ℕ, zero, suc, _+_, _-_, _*_, _≤_, _<_}
+use native.Mathlib.Nat.{add-zero, mul-comm, mul-zero}
+use native.Mathlib.Numerals.{one-add}
+use native.Mathlib.Omega.{arith}
+use lib.ListN.{length, getD, take, drop, set, replicate, length-set, length-map, length-replicate, take-append-drop}
+use lib.ListN.{List·getD-map}
+use lib.Seq.{sets, length-sets, drop-set-lt, drop-at, drop-drop, length-take-le}
+use lib.Dec.{leb, eqb}
+use borrow.Author.Tests.{leb-true, le-leb, eq-eqb}
+use borrow.Rule.Slice.PartMut.{putMid}
+use Rattle.lists.specs.Members.{all}
+use Rattle.lists.specs.Same.{Same}
+use Rattle.lists.specs.Words.{partAt, zeros, recordsOf, recordAt}
+use Rattle.lists.proofs.Choice.{and-left, and-right, and-both}
+use Rattle.lists.proofs.Members.{all-append, all-getD}
+use Rattle.lists.proofs.Same.{same-overwrite}
+use Rattle.lists.proofs.Parts.{start-next, start-le, start-within, length-part, part-drop, length-put, sets-put}
+use Rattle.lists.proofs.Words.{zeros-append, zeros-replicate, zeros-drop, zeros-are}
+use Rattle.lists.proofs.Records.{length-records, record-length, record-at, records-take-fewer, records-put}
+use Rattle.lists.proofs.Records.{records-past, records-append}
+use Rattle.lists.proofs.Parts.{reads-part}
+use Rattle.interval.proofs.Tuples.{words-of-tuple, words-of-row}
+use Rattle.interval.specs.Tuple.{tupleWidth, tupleOf, tupleWords, sameTuple, rowWidth, rowOf, rowWords, sameRow}
+use Rattle.interval.specs.declared.tuple.Tuple.{Tuple}
+use Rattle.interval.specs.declared.tuple.Row.{Row}
+use Rattle.part.specs.Part.{roomOf, counted, recordsIn, tuplesIn, rowsIn, tupleAt, rowAt, soundPart}
+use Rattle.part.specs.Part.{appended, removed}
+
+-- ---- runs of stores, and the room of records
+
+-- what lies after a run of stores is as it was
+drop-sets : (n : ℕ) (xs : List ℕ) (i : ℕ) (vs : List ℕ) → i + length vs ≤ n → drop n (sets xs i vs) ≡ drop n xs
+drop-sets n xs i [] h = refl
+drop-sets n xs i (v ∷ vs) h = drop-sets n (set xs i v) (suc i) vs (omega arith) ∙ drop-set-lt n xs i v (omega arith)
+
+-- a run of stores after the count word
+sets-suc : (m : ℕ) (ws : List ℕ) (i : ℕ) (vs : List ℕ) → sets (m ∷ ws) (suc i) vs ≡ m ∷ sets ws i vs
+sets-suc m ws i [] = refl
+sets-suc m ws i (v ∷ vs) = sets-suc m (set ws i v) (suc i) vs
+
+-- where record k starts among the words after the count word
+start-is : (w k : ℕ) → roomOf w k ≡ suc (k * w)
+start-is w k = one-add (w * k) ∙ ap suc (mul-comm w k)
+
+-- the room of fewer records, of one more, of a record among n, and of the last of n
+room-le : (w k n : ℕ) → k ≤ n → roomOf w k ≤ roomOf w n
+room-le w k n h = omega (arith, start-le k n w h, mul-comm w k, mul-comm w n)
+
+room-next : (w n : ℕ) → roomOf w (n + 1) ≡ roomOf w n + w
+room-next w n = omega (arith, start-next n w, mul-comm w (n + 1), mul-comm w n)
+
+room-within : (w k n : ℕ) → k < n → roomOf w k + w ≤ roomOf w n
+room-within w k n h = omega (arith, start-within k n w h, mul-comm w k, mul-comm w n)
+
+room-last : (w n : ℕ) → 0 < n → roomOf w (n - 1) + w ≡ roomOf w n
+room-last w n h = sym (room-next w (n - 1)) ∙ ap (roomOf w) (omega arith)
+
+-- a run of k stores, as a part put back
+stores : (i k : ℕ) (xs vs : List ℕ) → length vs ≡ k → i + k ≤ length xs → sets xs i vs ≡ putMid i k xs vs
+stores i k xs vs e h = sets-put i xs vs (omega arith) ∙ ap (λ (n : ℕ). putMid i n xs vs) e
+
+-- ---- a part as its count word and the words after it, after an append and after a removal
+
+module _ (w m : ℕ) (ws : List ℕ) where
+  appended-is : (r : List ℕ) → appended w r (m ∷ ws) ≡ (m + 1) ∷ sets ws (m * w) r
+  unfolding appended counted
+  appended-is r = rw (start-is w m) (sets-suc (m + 1) ws (m * w) r)
+
+  removed-is : (k : ℕ) → removed w k (m ∷ ws)
+      ≡ (m - 1) ∷ sets (sets ws (k * w) (recordAt w (m - 1) ws)) ((m - 1) * w) (replicate w 0)
+  unfolding removed counted
+  removed-is k =
+      let last = recordAt w (m - 1) ws in
+      rw (start-is w k, start-is w (m - 1))
+      (ap (λ (l : List ℕ). sets l (suc ((m - 1) * w)) (replicate w 0)) (sets-suc (m - 1) ws (k * w) last)
+      ∙ sets-suc (m - 1) (sets ws (k * w) last) ((m - 1) * w) (replicate w 0))
+
+-- ---- the stores of a removal: the last record's words over record k, then zeros over the last record's
+
+pub removed-by : (w k : ℕ) (part last none over whole : List ℕ)
+    → last ≡ partAt (roomOf w (counted part - 1)) w part → none ≡ replicate w 0
+    → over ≡ sets (set part 0 (counted part - 1)) (roomOf w k) last
+    → whole ≡ sets over (roomOf w (counted part - 1)) none → whole ≡ removed w k part
+unfolding removed
+removed-by w k part last none over whole l z o e = cc
+
+-- ---- lengths and counts
+
+module _ (w : ℕ) where
+  -- an append keeps the length
+  pub length-appended : (r part : List ℕ) → length (appended w r part) ≡ length part
+  unfolding appended
+  length-appended r part = simp (length-sets, length-set)
+
+  -- a removal keeps the length
+  pub length-removed : (k : ℕ) (part : List ℕ) → length (removed w k part) ≡ length part
+  unfolding removed
+  length-removed k part = simp (length-sets, length-set)
+
+  -- an append takes the count one up
+  pub counted-appended : (r part : List ℕ) → 1 ≤ length part → counted (appended w r part) ≡ counted part + 1
+  unfolding counted
+  counted-appended r [] h = absurd (omega arith)
+  counted-appended r (m ∷ ws) h = ap counted (appended-is w m ws r)
+
+  -- a removal takes it one down
+  pub counted-removed : (k : ℕ) (part : List ℕ) → 1 ≤ length part → counted (removed w k part) ≡ counted part - 1
+  unfolding counted
+  counted-removed k [] h = absurd (omega arith)
+  counted-removed k (m ∷ ws) h = ap counted (removed-is w m ws k)
+
+  -- ---- records
+
+  -- there are as many records as the count says
+  pub length-records-in : (part : List ℕ) → length (recordsIn w part) ≡ counted part
+  unfolding recordsIn
+  length-records-in part = length-records w (counted part) (drop 1 part)
+
+  -- record k of them, whatever d
+  pub record-in : (k : ℕ) (part d : List ℕ) → k < counted part
+      → getD (recordsIn w part) k d ≡ recordAt w k (drop 1 part)
+  unfolding recordsIn
+  record-in k part d h = record-at w (counted part) k (drop 1 part) d h
+
+  -- a record's words, as a part of the whole
+  pub record-part : (k : ℕ) (part : List ℕ) → recordAt w k (drop 1 part) ≡ partAt (roomOf w k) w part
+  record-part k part = part-drop (k * w) w 1 part ∙ rw (mul-comm w k)
+
+  -- a part that counts none has no records
+  pub records-none : (part : List ℕ) → counted part ≡ 0 → recordsIn w part ≡ []
+  unfolding recordsIn
+  records-none part e = rw e
+
+  -- an append puts the record after the others
+  pub records-appended : (r part : List ℕ) → roomOf w (counted part + 1) ≤ length part → length r ≡ w
+      → recordsIn w (appended w r part) ≡ recordsIn w part ++ (r ∷ [])
+  unfolding recordsIn counted
+  records-appended r [] h e = absurd (omega arith)
+  records-appended r (m ∷ ws) h e =
+      let fits : m * w + w ≤ length ws = omega (arith, mul-comm w (m + 1), start-next m w) in
+      ap (recordsIn w) (appended-is w m ws r) ∙ ap (recordsOf w (m + 1)) (stores (m * w) w ws r e fits)
+      ∙ records-append w m ws r fits e
+
+  -- a removal puts the last record over record k
+  pub records-removed : (k : ℕ) (part : List ℕ) → k < counted part → roomOf w (counted part) ≤ length part
+      → recordsIn w (removed w k part)
+      ≡ take (counted part - 1) (set (recordsIn w part) k (getD (recordsIn w part) (counted part - 1) []))
+  unfolding recordsIn counted
+  records-removed k [] h l = absurd (omega arith)
+  records-removed k (m ∷ ws) h l =
+      ap (recordsIn w) (removed-is w m ws k)
+      ∙ ap (λ (ws′ : List ℕ). recordsOf w (m - 1) (sets ws′ ((m - 1) * w) (replicate w 0)))
+      (stores (k * w) w ws last e at-k)
+      ∙ ap (recordsOf w (m - 1)) (stores ((m - 1) * w) w put (replicate w 0) (length-replicate w 0) at-last)
+      ∙ records-past w (m - 1) ((m - 1) * w) w put (replicate w 0) (omega arith) (omega (arith, at-last))
+      ∙ sym (records-take-fewer w m (m - 1) put (omega arith))
+      ∙ ap (take (m - 1)) (records-put w m k ws last h (omega (arith, mul-comm w m)) e)
+      ∙ rw (record-at w m (m - 1) ws [] (omega arith))
+    where
+      last : List ℕ
+      last = recordAt w (m - 1) ws
+
+      fits : (i : ℕ) → i < m → i * w + w ≤ length ws
+      fits i b = omega (arith, start-within i m w b, mul-comm w m)
+
+      at-k : k * w + w ≤ length ws
+      at-k = fits k h
+
+      e : length last ≡ w
+      e = record-length w (m - 1) ws (fits (m - 1) (omega arith))
+
+      put : List ℕ
+      put = putMid (k * w) w ws last
+
+      at-last : (m - 1) * w + w ≤ length put
+      at-last = omega (arith, length-put (k * w) w ws last at-k e, fits (m - 1) (omega arith))
+
+-- ---- tuples and rows: first of any value made of a record's words
+
+-- a value made of each member: of the first members, of a member overwritten, of member k
+map-take : {A : Type 0} (f : List ℕ → A) (n : ℕ) (rs : List (List ℕ)) → map f (take n rs) ≡ take n (map f rs)
+map-take f zero rs = refl
+map-take f (suc n) [] = refl
+map-take f (suc n) (r ∷ rs) = rw (map-take f n rs)
+
+map-set : {A : Type 0} (f : List ℕ → A) (rs : List (List ℕ)) (k : ℕ) (r : List ℕ)
+    → map f (set rs k r) ≡ set (map f rs) k (f r)
+map-set f [] k r = refl
+map-set f (s ∷ rs) zero r = refl
+map-set f (s ∷ rs) (suc k) r = rw (map-set f rs k r)
+
+map-getD : {A : Type 0} (f : List ℕ → A) (rs : List (List ℕ)) (k : ℕ) (d : A) (r : List ℕ) → k < length rs
+    → getD (map f rs) k d ≡ f (getD rs k r)
+map-getD f [] k d r h = absurd (omega arith)
+map-getD f (s ∷ rs) zero d r h = refl
+map-getD f (s ∷ rs) (suc k) d r h = map-getD f rs k d r (omega arith)
+
+module _ {A : Type 0} (f : List ℕ → A) (w : ℕ) where
+  -- as many values as the count says
+  length-values : (part : List ℕ) → length (map f (recordsIn w part)) ≡ counted part
+  length-values part = length-map (recordsIn w part) f ∙ length-records-in w part
+
+  -- value k, whatever d
+  value-in : (k : ℕ) (part : List ℕ) (d : A) → k < counted part
+      → getD (map f (recordsIn w part)) k d ≡ f (recordAt w k (drop 1 part))
+  value-in k part d h =
+      map-getD f (recordsIn w part) k d [] (omega (arith, length-records-in w part)) ∙ ap f (record-in w k part [] h)
+
+  -- the words of value k, as a part of the whole, where its words are those that it is made of
+  words-of-value : (words : A → List ℕ) → ((ws : List ℕ) → length ws ≡ w → words (f ws) ≡ ws) → (k : ℕ) (part : List ℕ)
+      → roomOf w (k + 1) ≤ length part → words (f (recordAt w k (drop 1 part))) ≡ partAt (roomOf w k) w part
+  words-of-value words back k part h =
+      rw (record-part w k part)
+      (back (partAt (roomOf w k) w part) (length-part (roomOf w k) w part (omega (arith, room-next w k))))
+
+  -- the values after an append
+  values-appended : (r part : List ℕ) → roomOf w (counted part + 1) ≤ length part → length r ≡ w
+      → map f (recordsIn w (appended w r part)) ≡ map f (recordsIn w part) ++ (f r ∷ [])
+  values-appended r part h e = ap (map f) (records-appended w r part h e) ∙ map-append f (recordsIn w part) (r ∷ [])
+
+  -- the values after a removal are the others, each as often
+  values-removed : (same : A → A → Bool) (k : ℕ) (part : List ℕ) → k < counted part
+      → roomOf w (counted part) ≤ length part
+      → Same same (map f (recordsIn w part))
+      (f (recordAt w k (drop 1 part)) ∷ map f (recordsIn w (removed w k part)))
+  values-removed same k part h l =
+      rw (moved, ← value-in k part (f []) h)
+      (same-overwrite same values (counted part - 1) k (f []) (omega (arith, length-values part)) (omega arith))
+    where
+      values : List A
+      values = map f (recordsIn w part)
+
+      moved : map f (recordsIn w (removed w k part))
+          ≡ take (counted part - 1) (set values k (getD values (counted part - 1) (f [])))
+      moved =
+          ap (map f) (records-removed w k part h l)
+          ∙ map-take f (counted part - 1) (set (recordsIn w part) k (getD (recordsIn w part) (counted part - 1) []))
+          ∙ rw (map-set f (recordsIn w part) k, List·getD-map f (recordsIn w part) (counted part - 1) [])
+
+-- tuple k, by its words
+pub tuple-words : (k : ℕ) (part : List ℕ) → roomOf tupleWidth (k + 1) ≤ length part
+    → tupleAt part k
+    ≡ (let at = roomOf tupleWidth k in
+    let word : ℕ → ℕ = λ j. getD part (at + j) 0 in
+    tupleOf (getD part at 0 ∷ (word 1 ∷ (word 2 ∷ (word 3 ∷ [])))))
+unfolding tupleAt
+tuple-words k part h =
+    let at = roomOf tupleWidth k in
+    rw (record-part tupleWidth k part, ← reads-part tupleWidth at 0 part (omega arith)) (simp add-zero)
+
+-- its words, as a part of the whole
+pub words-of-tuple-at : (k : ℕ) (part : List ℕ) → roomOf tupleWidth (k + 1) ≤ length part
+    → tupleWords (tupleAt part k) ≡ partAt (roomOf tupleWidth k) tupleWidth part
+unfolding tupleAt
+words-of-tuple-at k part h = words-of-value tupleOf tupleWidth tupleWords words-of-tuple k part h
+
+-- there are as many tuples as the count says
+pub length-tuples : (part : List ℕ) → length (tuplesIn part) ≡ counted part
+unfolding tuplesIn
+length-tuples part = length-values tupleOf tupleWidth part
+
+-- tuple k of them, whatever d
+pub tuple-in : (k : ℕ) (part : List ℕ) (d : Tuple) → k < counted part → getD (tuplesIn part) k d ≡ tupleAt part k
+unfolding tuplesIn tupleAt
+tuple-in k part d h = value-in tupleOf tupleWidth k part d h
+
+-- an append puts the tuple after the others
+pub tuples-appended : (t : Tuple) (part : List ℕ) → roomOf tupleWidth (counted part + 1) ≤ length part
+    → tuplesIn (appended tupleWidth (tupleWords t) part) ≡ tuplesIn part ++ (t ∷ [])
+unfolding tuplesIn
+tuples-appended t part h = values-appended tupleOf tupleWidth (tupleWords t) part h refl
+
+-- a removal takes tuple k out: the others are there, each as often
+pub tuples-removed : (k : ℕ) (part : List ℕ) → k < counted part → roomOf tupleWidth (counted part) ≤ length part
+    → Same sameTuple (tuplesIn part) (tupleAt part k ∷ tuplesIn (removed tupleWidth k part))
+unfolding tuplesIn tupleAt
+tuples-removed k part h l = values-removed tupleOf tupleWidth sameTuple k part h l
+
+-- a part that counts none has no tuples
+pub tuples-none : (part : List ℕ) → counted part ≡ 0 → tuplesIn part ≡ []
+unfolding tuplesIn
+tuples-none part e = ap (map tupleOf) (records-none tupleWidth part e)
+
+-- row k, by its words
+pub row-words : (k : ℕ) (part : List ℕ) → roomOf rowWidth (k + 1) ≤ length part
+    → rowAt part k
+    ≡ (let at = roomOf rowWidth k in
+    let word : ℕ → ℕ = λ j. getD part (at + j) 0 in
+    rowOf (getD part at 0 ∷ (word 1 ∷ (word 2 ∷ (word 3 ∷ (word 4 ∷ []))))))
+unfolding rowAt
+row-words k part h =
+    let at = roomOf rowWidth k in
+    rw (record-part rowWidth k part, ← reads-part rowWidth at 0 part (omega arith)) (simp add-zero)
+
+-- its words, as a part of the whole
+pub words-of-row-at : (k : ℕ) (part : List ℕ) → roomOf rowWidth (k + 1) ≤ length part
+    → rowWords (rowAt part k) ≡ partAt (roomOf rowWidth k) rowWidth part
+unfolding rowAt
+words-of-row-at k part h = words-of-value rowOf rowWidth rowWords words-of-row k part h
+
+-- there are as many rows as the count says
+pub length-rows : (part : List ℕ) → length (rowsIn part) ≡ counted part
+unfolding rowsIn
+length-rows part = length-values rowOf rowWidth part
+
+-- row k of them, whatever d
+pub row-in : (k : ℕ) (part : List ℕ) (d : Row) → k < counted part → getD (rowsIn part) k d ≡ rowAt part k
+unfolding rowsIn rowAt
+row-in k part d h = value-in rowOf rowWidth k part d h
+
+-- an append puts the row after the others
+pub rows-appended : (r : Row) (part : List ℕ) → roomOf rowWidth (counted part + 1) ≤ length part
+    → rowsIn (appended rowWidth (rowWords r) part) ≡ rowsIn part ++ (r ∷ [])
+unfolding rowsIn
+rows-appended r part h = values-appended rowOf rowWidth (rowWords r) part h refl
+
+-- a removal takes row k out: the others are there, each as often
+pub rows-removed : (k : ℕ) (part : List ℕ) → k < counted part → roomOf rowWidth (counted part) ≤ length part
+    → Same sameRow (rowsIn part) (rowAt part k ∷ rowsIn (removed rowWidth k part))
+unfolding rowsIn rowAt
+rows-removed k part h l = values-removed rowOf rowWidth sameRow k part h l
+
+-- a part that counts none has no rows
+pub rows-none : (part : List ℕ) → counted part ≡ 0 → rowsIn part ≡ []
+unfolding rowsIn
+rows-none part e = ap (map rowOf) (records-none rowWidth part e)
+
+-- ---- a sound part
+
+-- all, of the first members and of a member overwritten
+all-take : {A : Type 0} (p : A → Bool) (n : ℕ) (xs : List A) → all p xs ≡ true → all p (take n xs) ≡ true
+all-take p n xs h =
+    and-left (all p (take n xs)) (all p (drop n xs))
+    (sym (all-append p (take n xs) (drop n xs)) ∙ rw take-append-drop h)
+
+all-set : {A : Type 0} (p : A → Bool) (xs : List A) (k : ℕ) (x : A) → all p xs ≡ true → p x ≡ true
+    → all p (set xs k x) ≡ true
+all-set p [] k x h e = refl
+all-set p (y ∷ xs) zero x h e = and-both (p x) (all p xs) e (and-right (p y) (all p xs) h)
+all-set p (y ∷ xs) (suc k) x h e =
+    and-both (p y) (all p (set xs k x)) (and-left (p y) (all p xs) h)
+    (all-set p xs k x (and-right (p y) (all p xs) h) e)
+
+-- zeros written from place i on, and zeros after them
+zeros-from : (i k : ℕ) (xs : List ℕ) → i + k ≤ length xs → zeros (drop (i + k) xs) ≡ true
+    → zeros (drop i (sets xs i (replicate k 0))) ≡ true
+zeros-from i k xs h z =
+    rw (
+      stores i k xs (replicate k 0) (length-replicate k 0) h,
+      drop-at (take i xs) (replicate k 0 ++ drop k (drop i xs)) i (length-take-le i xs (omega arith)),
+      zeros-append (replicate k 0) (drop k (drop i xs)),
+      zeros-replicate k,
+      drop-drop k i xs,
+    ) z
+
+-- the words after the records, after an append and after a removal
+tail-appended : (w : ℕ) (r part : List ℕ) → length r ≡ w
+    → drop (roomOf w (counted part + 1)) (appended w r part) ≡ drop w (drop (roomOf w (counted part)) part)
+unfolding appended
+tail-appended w r part e =
+    let n = counted part in
+    drop-sets (roomOf w (n + 1)) (set part 0 (n + 1)) (roomOf w n) r (omega (arith, room-next w n))
+    ∙ drop-set-lt (roomOf w (n + 1)) part 0 (n + 1) (omega arith)
+    ∙ ap (λ (i : ℕ). drop i part) (room-next w n) ∙ sym (drop-drop w (roomOf w n) part)
+
+tail-removed : (w k : ℕ) (part : List ℕ) → k < counted part → roomOf w (counted part) ≤ length part
+    → zeros (drop (roomOf w (counted part)) part) ≡ true
+    → zeros (drop (roomOf w (counted part - 1)) (removed w k part)) ≡ true
+unfolding removed
+tail-removed w k part h l z =
+    zeros-from (roomOf w (n - 1)) w moved (rw (long, room-last w n (omega arith)) l)
+    (rw (room-last w n (omega arith), after) z)
+  where
+    n : ℕ
+    n = counted part
+
+    last : List ℕ
+    last = partAt (roomOf w (n - 1)) w part
+
+    moved : List ℕ
+    moved = sets (set part 0 (n - 1)) (roomOf w k) last
+
+    long : length moved ≡ length part
+    long = length-sets (set part 0 (n - 1)) (roomOf w k) last ∙ length-set part 0 (n - 1)
+
+    last-long : length last ≡ w
+    last-long = length-part (roomOf w (n - 1)) w part (omega (arith, room-last w n (omega arith)))
+
+    after : drop (roomOf w n) moved ≡ drop (roomOf w n) part
+    after =
+        drop-sets (roomOf w n) (set part 0 (n - 1)) (roomOf w k) last (omega (arith, last-long, room-within w k n h))
+        ∙ drop-set-lt (roomOf w n) part 0 (n - 1) (omega arith)
+
+-- a part that is not full has room for one record more
+pub room-free : (w capacity : ℕ) (part : List ℕ) → length part ≡ roomOf w capacity → counted part < capacity
+    → roomOf w (counted part + 1) ≤ length part
+room-free w capacity part l c = rw l (room-le w (counted part + 1) capacity (omega arith))
+
+module _ (w capacity : ℕ) (ok : List ℕ → Bool) where
+  -- a sound part's count is within the capacity
+  pub sound-count : (part : List ℕ) → soundPart w capacity ok part ≡ true → counted part ≤ capacity
+  unfolding soundPart
+  sound-count part h = leb-true (counted part) capacity (and-left (leb (counted part) capacity) _ h)
+
+  -- each of its counted records is legal
+  pub sound-records : (part : List ℕ) → soundPart w capacity ok part ≡ true → all ok (recordsIn w part) ≡ true
+  unfolding soundPart
+  sound-records part h = and-left (all ok (recordsIn w part)) _ (and-right (leb (counted part) capacity) _ h)
+
+  -- the words after its counted records are 0
+  pub sound-tail : (part : List ℕ) → soundPart w capacity ok part ≡ true
+      → zeros (drop (roomOf w (counted part)) part) ≡ true
+  unfolding soundPart
+  sound-tail part h = and-right (all ok (recordsIn w part)) _ (and-right (leb (counted part) capacity) _ h)
+
+  -- the three together make a part sound
+  pub part-sound : (part : List ℕ) → counted part ≤ capacity → all ok (recordsIn w part) ≡ true
+      → zeros (drop (roomOf w (counted part)) part) ≡ true → soundPart w capacity ok part ≡ true
+  unfolding soundPart
+  part-sound part c r z = and-both _ _ (le-leb (counted part) capacity c) (and-both _ _ r z)
+
+  -- a sound part has room for its records
+  pub sound-room : (part : List ℕ) → soundPart w capacity ok part ≡ true → length part ≡ roomOf w capacity
+      → roomOf w (counted part) ≤ length part
+  sound-room part s l = rw l (room-le w (counted part) capacity (sound-count part s))
+
+  -- an append of a legal record, to a part that is not full, leaves the part sound
+  pub sound-appended : (r part : List ℕ) → soundPart w capacity ok part ≡ true → length part ≡ roomOf w capacity
+      → counted part < capacity → length r ≡ w → ok r ≡ true → soundPart w capacity ok (appended w r part) ≡ true
+  sound-appended r part s l c e o =
+      let more = counted-appended w r part (omega arith) in
+      part-sound (appended w r part) (omega (arith, more))
+      (rw (
+        records-appended w r part (room-free w capacity part l c) e,
+        all-append ok (recordsIn w part) (r ∷ []),
+        o,
+        sound-records part s,
+      ))
+      (rw (more, tail-appended w r part e) (zeros-drop w (drop (roomOf w (counted part)) part) (sound-tail part s)))
+
+  -- a removal leaves it sound
+  pub sound-removed : (k : ℕ) (part : List ℕ) → soundPart w capacity ok part ≡ true → length part ≡ roomOf w capacity
+      → k < counted part → soundPart w capacity ok (removed w k part) ≡ true
+  sound-removed k part s l h =
+      let n = counted part in
+      let rs = recordsIn w part in
+      let less = counted-removed w k part (omega arith) in
+      let last = all-getD ok rs [] (sound-records part s) (n - 1) (omega (arith, length-records-in w part)) in
+      part-sound (removed w k part) (omega (arith, less, sound-count part s))
+      (rw (records-removed w k part h (sound-room part s l))
+      (all-take ok (n - 1) (set rs k (getD rs (n - 1) [])) (all-set ok rs k _ (sound-records part s) last)))
+      (rw less (tail-removed w k part h (sound-room part s l) (sound-tail part s)))
+
+  -- a sound part with no records is all zeros
+  pub sound-none : (part : List ℕ) → soundPart w capacity ok part ≡ true → counted part ≡ 0
+      → length part ≡ roomOf w capacity → part ≡ replicate (roomOf w capacity) 0
+  unfolding counted
+  sound-none [] s e l = absurd (omega arith)
+  sound-none (m ∷ ws) s e l =
+      let tail : zeros ws ≡ true = rw (e, mul-zero w) at (sound-tail (m ∷ ws) s) in
+      zeros-are (m ∷ ws) (and-both (eqb m 0) (zeros ws) (eq-eqb m 0 e) tail) ∙ ap (λ (n : ℕ). replicate n 0) l
+
+-- ---- an empty part: all zeros
+
+-- it counts none
+pub counted-empty : (n : ℕ) → counted (replicate n 0) ≡ 0
+unfolding counted
+counted-empty zero = refl
+counted-empty (suc n) = refl
+
+-- it has no records
+pub records-empty : (w n : ℕ) → recordsIn w (replicate n 0) ≡ []
+records-empty w n = records-none w (replicate n 0) (counted-empty n)
+
+-- no tuples
+pub tuples-empty : (n : ℕ) → tuplesIn (replicate n 0) ≡ []
+tuples-empty n = tuples-none (replicate n 0) (counted-empty n)
+
+-- no rows
+pub rows-empty : (n : ℕ) → rowsIn (replicate n 0) ≡ []
+rows-empty n = rows-none (replicate n 0) (counted-empty n)
+
+-- it is sound
+pub sound-empty : (w capacity : ℕ) (ok : List ℕ → Bool)
+    → soundPart w capacity ok (replicate (roomOf w capacity) 0) ≡ true
+sound-empty w capacity ok =
+    let part : List ℕ = replicate (roomOf w capacity) 0 in
+    let none : counted part ≡ 0 = counted-empty (roomOf w capacity) in
+    part-sound w capacity ok part (omega (arith, none)) (rw (records-empty w (roomOf w capacity)))
+    (zeros-drop (roomOf w (counted part)) part (zeros-replicate (roomOf w capacity)))
+
+-- ---- the place that a removal frees
+
+-- after a removal there is room for an append, which takes the count to what it was
+pub space-reused : (w k : ℕ) (r part : List ℕ) → k < counted part → roomOf w (counted part) ≤ length part
+    → (roomOf w (counted (removed w k part) + 1) ≤ length (removed w k part))
+    × (counted (appended w r (removed w k part)) ≡ counted part)
+space-reused w k r part h l =
+    let less = counted-removed w k part (omega arith) in
+    let long = length-removed w k part in
+    let room : counted (removed w k part) + 1 ≡ counted part = omega arith in
+    (rw (room, long) l, counted-appended w r (removed w k part) (omega arith) ∙ room)

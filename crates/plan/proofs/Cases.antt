@@ -1,0 +1,147 @@
+-- Closed cases that compute, from the definitions that the promises cite: document 01's P10, the intervals of its
+-- lanes, and each of checks 1 to 3 at its first illegal value.
+-- Assumes nothing.
+use mathlib.Core.Bool.{true, false}
+use mathlib.Core.List.{List, [], _∷_, _++_, map}
+use mathlib.Core.Path.{_≡_, refl}
+use Prim.Native.Nat.{ℕ, _-_}
+use lib.ListN.{length, replicate}
+use Rattle.lists.specs.Choice.{firstOf}
+use Rattle.lists.specs.Members.{below}
+use Rattle.interval.specs.Time.{span}
+use Rattle.interval.specs.declared.time.Chronon.{Chronon}
+use Rattle.interval.specs.declared.time.Interval.{Interval}
+use Rattle.plan.specs.Plan.{cutsOf, cover, planNumber, legalPlan, homeOf, home}
+use Rattle.plan.specs.Plan.{startOf, intervalOf, boundsAt}
+use Rattle.plan.specs.declared.Partitioning.{Partitioning}
+
+-- a plan of these cuts, in 64 places; those beyond hold 7
+abbrev places : List ℕ → List Chronon
+places cs = map (λ (n : ℕ). record { 0 = n }) (cs ++ replicate (64 - length cs) 7)
+
+abbrev plan : ℕ → List ℕ → ℕ → ℕ → Partitioning
+plan count cs tuples rows = record { count = count; lasts = places cs; tuples = tuples; rows = rows }
+
+-- P10's plan, a plan with one partition, and one with 64
+abbrev p10 : Partitioning
+p10 = plan 3 (34 ∷ (40 ∷ (99999999 ∷ []))) 8 16
+
+abbrev one : Partitioning
+one = plan 1 (99999999 ∷ []) 512 4096
+
+abbrev full : List ℕ
+full = below 63 ++ (99999999 ∷ [])
+
+-- P10: last minute 34 belongs to lane 1, 35 to lane 2; the ends of the calendar and of each lane; none past the end
+homes : List (ℕ × ℕ)
+homes =
+    (0, 0)
+    ∷ ((34, 0)
+    ∷ ((35, 1)
+    ∷ ((40, 1)
+    ∷ ((41, 2)
+    ∷ ((99999999, 2)
+    ∷ ((100000000, 3)
+    ∷ []))))))
+
+Homes : List (ℕ × ℕ) → Type 0
+Homes [] = Unit {0}
+Homes (c ∷ cs) = (home p10 (c .0) ≡ c .1) × Homes cs
+
+homes-hold : Homes homes
+unfolding homes Homes cutsOf homeOf home
+homes-hold = (refl, (refl, (refl, (refl, (refl, (refl, (refl, tt)))))))
+
+-- each partition's interval, and none past the last; a plan that is not legal has none
+intervals : List (Partitioning × ℕ × List Interval)
+intervals =
+    (p10, 0, span 0 34 ∷ [])
+    ∷ ((p10, 1, span 35 40 ∷ [])
+    ∷ ((p10, 2, span 41 99999999 ∷ [])
+    ∷ ((p10, 3, [])
+    ∷ ((one, 0, span 0 99999999 ∷ [])
+    ∷ ((one, 1, [])
+    ∷ ((plan 64 full 1 1, 0, span 0 0 ∷ [])
+    ∷ ((plan 64 full 1 1, 63, span 63 99999999 ∷ [])
+    ∷ ((plan 2 (34 ∷ (99999999 ∷ [])) 0 16, 0, [])
+    ∷ []))))))))
+
+Intervals : List (Partitioning × ℕ × List Interval) → Type 0
+Intervals [] = Unit {0}
+Intervals (c ∷ cs) = (boundsAt (c .0) (c .1) ≡ c .2) × Intervals cs
+
+intervals-hold : Intervals intervals
+unfolding intervals Intervals firstOf cutsOf cover planNumber legalPlan startOf intervalOf boundsAt
+intervals-hold = (refl, (refl, (refl, (refl, (refl, (refl, (refl, (refl, (refl, tt)))))))))
+
+-- a plan and its number
+Checks : List (Partitioning × ℕ) → Type 0
+Checks [] = Unit {0}
+Checks (c ∷ cs) = (planNumber (c .0) ≡ c .1) × Checks cs
+
+-- legal plans: three partitions, one with the largest sizes, 64 with the smallest
+legals : List (Partitioning × ℕ)
+legals = (p10, 0) ∷ ((one, 0) ∷ ((plan 64 full 1 1, 0) ∷ []))
+
+legals-hold : Checks legals
+unfolding legals Checks firstOf cutsOf cover planNumber
+legals-hold = (refl, (refl, (refl, tt)))
+
+-- check 1: no partition, one more than 64, the largest count
+counts : List (Partitioning × ℕ)
+counts =
+    (plan 0 (99999999 ∷ []) 8 16, 1)
+    ∷ ((plan 65 full 8 16, 1)
+    ∷ ((plan 18446744073709551615 full 8 16, 1)
+    ∷ []))
+
+counts-hold : Checks counts
+unfolding counts Checks firstOf cutsOf cover planNumber
+counts-hold = (refl, (refl, (refl, tt)))
+
+-- check 2: cuts that fall, equal cuts, a last cut before the calendar's end, one cut left out, a cut past the calendar
+cuts : List (Partitioning × ℕ)
+cuts =
+    (plan 3 (40 ∷ (34 ∷ (99999999 ∷ []))) 8 16, 2)
+    ∷ ((plan 3 (34 ∷ (34 ∷ (99999999 ∷ []))) 8 16, 2)
+    ∷ ((plan 2 (99999999 ∷ (99999999 ∷ [])) 8 16, 2)
+    ∷ ((plan 3 (34 ∷ (40 ∷ (99999998 ∷ []))) 8 16, 2)
+    ∷ ((plan 2 (34 ∷ (40 ∷ (99999999 ∷ []))) 8 16, 2)
+    ∷ ((plan 3 (34 ∷ (40 ∷ (100000000 ∷ []))) 8 16, 2)
+    ∷ ((plan 3 (34 ∷ (100000000 ∷ (99999999 ∷ []))) 8 16, 2)
+    ∷ []))))))
+
+cuts-hold : Checks cuts
+unfolding cuts Checks firstOf cutsOf cover planNumber
+cuts-hold = (refl, (refl, (refl, (refl, (refl, (refl, (refl, tt)))))))
+
+-- check 3: each size at its first illegal value
+sizes : List (Partitioning × ℕ)
+sizes =
+    (plan 1 (99999999 ∷ []) 0 16, 3)
+    ∷ ((plan 1 (99999999 ∷ []) 513 16, 3)
+    ∷ ((plan 1 (99999999 ∷ []) 8 0, 3)
+    ∷ ((plan 1 (99999999 ∷ []) 8 4097, 3)
+    ∷ [])))
+
+sizes-hold : Checks sizes
+unfolding sizes Checks firstOf cutsOf cover planNumber
+sizes-hold = (refl, (refl, (refl, (refl, tt))))
+
+-- several faults: the first check that applies answers
+faults : List (Partitioning × ℕ)
+faults =
+    (plan 0 (40 ∷ (34 ∷ [])) 0 4097, 1)
+    ∷ ((plan 65 (40 ∷ (34 ∷ [])) 8 16, 1)
+    ∷ ((plan 2 (40 ∷ (34 ∷ [])) 0 4097, 2)
+    ∷ ((plan 1 (99999999 ∷ []) 0 4097, 3)
+    ∷ [])))
+
+faults-hold : Checks faults
+unfolding faults Checks firstOf cutsOf cover planNumber
+faults-hold = (refl, (refl, (refl, (refl, tt))))
+
+-- a plan is legal where its number is 0
+legal-hold : (legalPlan p10 ≡ true) × (legalPlan one ≡ true) × (legalPlan (plan 65 full 8 16) ≡ false)
+unfolding firstOf cutsOf cover planNumber legalPlan
+legal-hold = (refl, refl, refl)

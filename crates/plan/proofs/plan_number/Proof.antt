@@ -1,0 +1,98 @@
+-- `plan::plan_number` meets its contract: the first check that applies answers.
+-- Assumes nothing.
+use mathlib.Core.Bool.{true, false}
+use mathlib.Core.Path.{_≡_, sym, _∙_}
+use borrow.Author.Tests.{not-true, not-false}
+use Rattle.lists.proofs.Choice.{or-left, or-right}
+use Rattle.plan.specs.Plan.{outside, cutsOf, cover, planNumber}
+use Rattle.plan.specs.declared.Partitioning.{Partitioning}
+use Rattle.plan.proofs.Homes.{is-within, is-below, is-above, plan-legal}
+use Rattle.plan.proofs.Homes.{count-answers, cuts-answer, sizes-answer}
+use borrow.Author.Needs.{needs}
+use Rattle.plan.proofs.plan_number.Statement.{statement}
+use Rattle.plan.proofs.plan_number.Tie as tie
+
+returns : tie.Need-returns
+returns c =
+    let p = c .before .before .args .p in
+    count-answers p (is-below 1 64 (p .count) (c .if1 .taken))
+
+returns-2 : tie.Need-returns-2
+returns-2 c =
+    let p = c .before .before .before .before .args .p in
+    count-answers p (is-above 1 64 (p .count) (c .if2 .taken))
+
+-- check 1 does not apply
+counted : (c : tie.Else2) → outside 1 64 (c .before .before .before .before .args .p .count) ≡ false
+counted c = is-within 1 64 _ (c .before .before .if1 .left) (c .if2 .left)
+
+covers-requires : tie.Need-covers-requires
+covers-requires c κs = search needs
+
+returns-3 : tie.Need-returns-3
+unfolding cutsOf
+returns-3 c =
+    let p = c .before .before .before .before .before .before .before .args .p in
+    let no : c .before .covers .result ≡ false = not-true (c .before .covers .result) (c .if3 .taken) in
+    cuts-answer p (counted (c .before .before .before)) (sym (c .before .covers .ensures) ∙ no)
+
+-- check 2 does not apply
+abbrev planOf : tie.Else3 → Partitioning
+planOf c = c .before .before .before .before .before .before .before .args .p
+
+covered : (c : tie.Else3) → cover (cutsOf (planOf c)) ≡ true
+unfolding cutsOf
+covered c = sym (c .before .covers .ensures) ∙ not-false (c .before .covers .result) (c .if3 .left)
+
+-- check 3 applies, by the tuples and by the rows
+tuples-answer : (c : tie.Else3) → outside 1 512 (planOf c .tuples) ≡ true → 3 ≡ planNumber (planOf c)
+tuples-answer c e =
+    sizes-answer (planOf c) (counted (c .before .before .before)) (covered c)
+    (or-left _ (outside 1 4096 (planOf c .rows)) e)
+
+rows-answer : (c : tie.Else3) → outside 1 4096 (planOf c .rows) ≡ true → 3 ≡ planNumber (planOf c)
+rows-answer c e =
+    sizes-answer (planOf c) (counted (c .before .before .before)) (covered c)
+    (or-right (outside 1 512 (planOf c .tuples)) _ e)
+
+returns-4 : tie.Need-returns-4
+returns-4 c = tuples-answer (c .before .before) (is-below 1 512 _ (c .if4 .taken))
+
+returns-5 : tie.Need-returns-5
+returns-5 c = tuples-answer (c .before .before .before .before) (is-above 1 512 _ (c .if5 .taken))
+
+returns-6 : tie.Need-returns-6
+returns-6 c = rows-answer (c .before .before .before .before .before .before) (is-below 1 4096 _ (c .if6 .taken))
+
+returns-7 : tie.Need-returns-7
+returns-7 c =
+    rows-answer (c .before .before .before .before .before .before .before .before) (is-above 1 4096 _ (c .if7 .taken))
+
+returns-8 : tie.Need-returns-8
+returns-8 c =
+    let past = c .before .before .before .before .before .before .before .before in
+    sym
+    (plan-legal (planOf past)
+    record {
+      least = past .before .before .before .before .before .if1 .left;
+      most = past .before .before .before .if2 .left;
+      covered = covered past;
+      tuples-least = c .before .before .before .before .before .before .if4 .left;
+      tuples-most = c .before .before .before .before .if5 .left;
+      rows-least = c .before .before .if6 .left;
+      rows-most = c .if7 .left;
+    })
+
+pub plan-number-spec : {M : Type 1} → statement M
+plan-number-spec =
+    tie.close
+    (tie.spec
+    returns
+    returns-2
+    covers-requires
+    returns-3
+    returns-4
+    returns-5
+    returns-6
+    returns-7
+    returns-8)

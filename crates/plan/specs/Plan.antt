@@ -1,0 +1,71 @@
+-- The partitioning (document 01: plan): its cuts (last minutes), its own checks, and the partition (lane) of a chronon.
+-- Partitions are counted from 0 here; document 01's lane 1 is partition 0. The laws are in proofs/Homes.antt.
+use mathlib.Core.Bool.{Bool, true, false, not, _&&_, _||_}
+use mathlib.Core.List.{List, [], _∷_, map}
+use mathlib.Core.Path.{_≡_}
+use Prim.Native.Nat.{ℕ, zero, suc, _+_}
+use lib.ListN.{length, getD, take}
+use lib.Dec.{leb, ltb, eqb}
+use Rattle.lists.specs.Choice.{pick, refuseIf, firstOf}
+use Rattle.interval.specs.Time.{calendarEnd, span}
+use Rattle.interval.specs.declared.time.Chronon.{Chronon}
+use Rattle.interval.specs.declared.time.Interval.{Interval}
+use Rattle.plan.specs.declared.Partitioning.{Partitioning}
+use Rattle.plan.specs.declared.Bounds.{Bounds}
+use Rattle.plan.specs.declared.Bounds.the-variants.{Within, Outside}
+
+-- "a lane count n (1 to 64) .. a tuple capacity (1 to 512) and a row capacity (1 to 4,096)"
+abbrev pub outside : ℕ → ℕ → ℕ → Bool
+outside least most n = ltb n least || ltb most n
+
+abbrev pub numbers : List Chronon → List ℕ
+numbers ms = map (λ (m : Chronon). m .0) ms
+
+-- the last chronons of the partitions in use: "A plan has 64 places for them; those beyond n are ignored"
+unfoldable pub cutsOf : Partitioning → List ℕ
+cutsOf p = take (p .count) (numbers (p .lasts))
+
+-- "Last minutes rise strictly; the last is 99,999,999."
+unfoldable pub cover : List ℕ → Bool
+cover [] = false
+cover (c ∷ []) = eqb c calendarEnd
+cover (c ∷ (e ∷ cs)) = ltb c e && cover (e ∷ cs)
+
+-- checks 1 to 3, in that order
+unfoldable pub planNumber : Partitioning → ℕ
+planNumber p =
+    firstOf
+    (refuseIf (outside 1 64 (p .count)) 1
+    ∷ (refuseIf (not (cover (cutsOf p))) 2
+    ∷ (refuseIf (outside 1 512 (p .tuples) || outside 1 4096 (p .rows)) 3
+    ∷ [])))
+
+-- "A plan is legal if none of the plan's own checks below applies to it."
+unfoldable pub legalPlan : Partitioning → Bool
+legalPlan p = eqb (planNumber p) 0
+
+-- the partition that contains a chronon: how many partitions end before it
+unfoldable pub homeOf : List ℕ → ℕ → ℕ
+homeOf [] m = 0
+homeOf (c ∷ cs) m = pick (leb m c) 0 (suc (homeOf cs m))
+
+unfoldable pub home : Partitioning → ℕ → ℕ
+home p m = homeOf (cutsOf p) m
+
+-- "Lane 1 starts at minute 0, each next lane one minute after the lane before."
+unfoldable pub startOf : List ℕ → ℕ → ℕ
+startOf cs zero = 0
+startOf cs (suc i) = getD cs i 0 + 1
+
+-- the interval of partition i: from its first chronon to its last
+unfoldable pub intervalOf : Partitioning → ℕ → Interval
+intervalOf p i = span (startOf (cutsOf p) i) (getD (cutsOf p) i 0)
+
+-- the interval that an answer stands for, if any
+abbrev pub boundsOf : Bounds → List Interval
+boundsOf (Within v) = v ∷ []
+boundsOf Outside = []
+
+-- the interval of a partition, where the plan is legal and has that partition
+unfoldable pub boundsAt : Partitioning → ℕ → List Interval
+boundsAt p i = pick (legalPlan p && ltb i (p .count)) (intervalOf p i ∷ []) []

@@ -1,0 +1,124 @@
+// Partitionings (document 01: plans), by value: their own checks 1 to 3, the partition of a chronon, the interval of a
+// partition. Cost: at most 64 comparisons.
+ghost use mathlib.Core.Path.{_≡_};
+ghost use lib.ListN.{take};
+ghost use Rattle.plan.specs.Plan.{numbers, cover, planNumber, home, boundsOf, boundsAt};
+use interval::time::CALENDAR_END;
+use interval::time::Chronon;
+use interval::time::Interval;
+
+// A lane number of document 01, counted from 0. It is no Chronon: one handed over where the other belongs does not compile.
+pub struct PartitionIndex(pub u64);
+
+// A plan of document 01: the lane count, the last minute of each lane, the tuple capacity and the row capacity of a lane.
+pub struct Partitioning {
+    pub count: u64,
+    pub lasts: [Chronon; 64],
+    pub tuples: u64,
+    pub rows: u64,
+}
+
+// The interval of a partition, if the plan has it.
+pub enum Bounds {
+    Within(Interval),
+    Outside,
+}
+
+// The first `count` of the last chronons rise strictly and end at the calendar's end.
+pub fn covers(count: u64, lasts: [Chronon; 64]) -> bool
+    ensures { λ r. ⌜ r ≡ cover (take count (numbers lasts)) ⌝ }
+{
+    if count < 1 {
+        return false;
+    }
+    let mut used: u64 = 64;
+    if count < 64 {
+        used = count;
+    }
+    let mut i: u64 = 0;
+    while i < used - 1 {
+        let last = lasts[i as usize];
+        let next = lasts[i as usize + 1];
+        if next.0 <= last.0 {
+            return false;
+        }
+        i += 1;
+    }
+    let end = lasts[i as usize];
+    end.0 == CALENDAR_END
+}
+
+// Checks 1 to 3 of a plan: the number of the first that applies, 0 if none does.
+pub fn plan_number(p: Partitioning) -> u64
+    ensures { λ r. ⌜ r ≡ planNumber p ⌝ }
+{
+    if p.count < 1 {
+        return 1;
+    }
+    if 64 < p.count {
+        return 1;
+    }
+    let lasts = p.lasts;
+    if !covers(p.count, lasts) {
+        return 2;
+    }
+    if p.tuples < 1 {
+        return 3;
+    }
+    if 512 < p.tuples {
+        return 3;
+    }
+    if p.rows < 1 {
+        return 3;
+    }
+    if 4096 < p.rows {
+        return 3;
+    }
+    0
+}
+
+// The partition that contains a chronon; the number of partitions where none does.
+pub fn home(p: Partitioning, m: Chronon) -> PartitionIndex
+    ensures { λ r. ⌜ r .0 ≡ home p (m .0) ⌝ }
+{
+    let lasts = p.lasts;
+    let mut used: u64 = 64;
+    if p.count < 64 {
+        used = p.count;
+    }
+    let mut i: u64 = 0;
+    while i < used {
+        let last = lasts[i as usize];
+        if m.0 <= last.0 {
+            return PartitionIndex(i);
+        }
+        i += 1;
+    }
+    PartitionIndex(i)
+}
+
+// The interval of partition i of a legal plan, from its first chronon to its last.
+pub fn interval_of(p: Partitioning, i: PartitionIndex) -> Bounds
+    ensures { λ r. ⌜ boundsOf r ≡ boundsAt p (i .0) ⌝ }
+{
+    if plan_number(p) != 0 {
+        return Bounds::Outside;
+    }
+    if p.count <= i.0 {
+        return Bounds::Outside;
+    }
+    let lasts = p.lasts;
+    let at = i.0 as usize;
+    let last = lasts[at];
+    if at == 0 {
+        return Bounds::Within(Interval {
+            first: Chronon(0),
+            last,
+        });
+    }
+    let before = lasts[at - 1];
+    Bounds::Within(Interval {
+        first: Chronon(before.0 + 1),
+        last,
+    })
+}
