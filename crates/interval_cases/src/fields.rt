@@ -73,7 +73,7 @@ fn all_bytes() -> Counts {
 }
 
 // The line bytes: fields of one byte, fields that differ, fields accepted, fields refused.
-pub fn run_bytes() {
+pub(crate) fn run_bytes() {
     report::name(b"bytes");
     line(all_bytes());
 }
@@ -116,7 +116,7 @@ fn all_twos() -> Counts {
 }
 
 // The line twos: fields of two bytes, fields that differ, fields accepted, fields refused.
-pub fn run_twos() {
+pub(crate) fn run_twos() {
     report::name(b"twos");
     line(all_twos());
 }
@@ -160,7 +160,7 @@ fn all_lengths() -> Counts {
 }
 
 // The line lengths: rows of Z, rows that differ, rows accepted, rows refused.
-pub fn run_lengths() {
+pub(crate) fn run_lengths() {
     report::name(b"lengths");
     line(all_lengths());
 }

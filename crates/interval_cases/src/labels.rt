@@ -139,7 +139,7 @@ fn all_labels() -> Labels {
 }
 
 // The line labels: numbers, numbers that differ.
-pub fn run() {
+pub(crate) fn run() {
     let l = all_labels();
     report::name(b"labels");
     report::number(l.cases);
@@ -157,7 +157,7 @@ fn seven_z_and(letter: u8) -> Odometer {
 
 // The line ends: five cases at the ends of the range, and how many differ. They are ZZZZZZZY, what the odometer
 // shows after it, ZZZZZZZZ, and that the numbers next to the range, one more and 0, have no letters.
-pub fn run_ends() {
+pub(crate) fn run_ends() {
     let y = seven_z_and(89);
     let z = seven_z_and(90);
     let a = report::more_unless(agrees(217_180_147_157, y), 0);

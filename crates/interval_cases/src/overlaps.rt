@@ -120,7 +120,7 @@ fn all_pairs() -> Counts {
 }
 
 // The line overlap: pairs, pairs that differ, pairs with an overlap.
-pub fn run() {
+pub(crate) fn run() {
     let n = all_pairs();
     report::name(b"overlap");
     report::number(n.cases);

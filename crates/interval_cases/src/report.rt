@@ -2,24 +2,24 @@
 use libc::STDOUT_FILENO;
 
 // One more.
-pub fn more(n: u64) -> u64 {
+pub(crate) fn more(n: u64) -> u64 {
     if n < 1_000_000 { n + 1 } else { n }
 }
 
 // One more if the case went wrong.
-pub fn more_unless(good: bool, n: u64) -> u64 {
+pub(crate) fn more_unless(good: bool, n: u64) -> u64 {
     if good { n } else { more(n) }
 }
 
-pub fn name(text: &[u8]) {
+pub(crate) fn name(text: &[u8]) {
     io::write_all(STDOUT_FILENO, text);
 }
 
-pub fn number(n: u64) {
+pub(crate) fn number(n: u64) {
     io::write_all(STDOUT_FILENO, b",");
     io::print_decimal(STDOUT_FILENO, n);
 }
 
-pub fn end() {
+pub(crate) fn end() {
     io::write_all(STDOUT_FILENO, b"\n");
 }

@@ -104,7 +104,7 @@ fn all_tuples() -> Counts {
 }
 
 // The line tuples: tuples, tuples that differ, and how many the crate answers with 0, 6, 7 and 8.
-pub fn run() {
+pub(crate) fn run() {
     let n = all_tuples();
     report::name(b"tuples");
     report::number(n.cases);
