@@ -3,13 +3,14 @@
 -- `Sought`, that of `home`, with its laws.
 -- Assumes nothing.
 use mathlib.Core.Bool.{false}
-use mathlib.Core.List.{List, _∷_}
+use mathlib.Core.List.{List, [], _∷_, _++_}
 use mathlib.Core.Logic.{⊎-elim}
 use mathlib.Core.Path.{_≡_, refl, sym, _∙_, ap}
-use Prim.Native.Nat.{ℕ, suc, _+_, _-_, _≤_, _<_, min}
+use Prim.Native.Nat.{ℕ, zero, suc, _+_, _-_, _≤_, _<_, min}
+use native.Mathlib.Nat.{suc-add}
 use native.Mathlib.Numerals.{add-one}
 use native.Mathlib.Omega.{arith}
-use lib.ListN.{length, getD, take, drop, length-take, length-map, drop-of-length-le}
+use lib.ListN.{length, getD, take, drop, set, length-take, length-map, drop-of-length-le}
 use lib.Seq.{drop-cons, take-all}
 use lib.Dec.{eqb}
 use borrow.Author.Tests.{lt-ltb, le-ltb}
@@ -148,3 +149,57 @@ module _ (lasts : List Chronon) (m used i : ℕ) (s : Sought lasts m used i) whe
   -- no cut is left
   pub sought-end : used ≤ i → i ≡ homeOf (inUse used lasts) m
   sought-end l = omega (arith, home-end (inUse used lasts) m i (omega (arith, ends-long)))
+
+-- ---- `recut`: new last chronons put into the first places, one after the other
+
+pub record Spliced (new old : List Chronon) (used i : ℕ) (lasts : List Chronon) : Type 0 where
+  pub long : length new ≡ 64
+  pub long-old : length old ≡ 64
+  pub few : used ≤ 64
+  pub upto : i ≤ used
+  pub mixed : lasts ≡ take i new ++ drop i old
+
+pub spliced-start : (new old : List Chronon) (used : ℕ) → length new ≡ 64 → length old ≡ 64 → used ≤ 64
+    → Spliced new old used 0 old
+spliced-start new old used a b l =
+    record { long = a; long-old = b; few = l; upto = omega arith; mixed = refl }
+
+-- one place more
+splice : {A : Type 0} (new old : List A) (i : ℕ) (d : A) → i < length new → i < length old
+    → set (take i new ++ drop i old) i (getD new i d) ≡ take (i + 1) new ++ drop (i + 1) old
+splice [] old i d l m = absurd (omega arith)
+splice (x ∷ new) [] i d l m = absurd (omega arith)
+splice (x ∷ new) (y ∷ old) zero d l m = refl
+splice (x ∷ new) (y ∷ old) (suc i) d l m = simp suc-add (ap (λ r. x ∷ r) (splice new old i d (omega arith) (omega arith)))
+
+pub spliced-step : (new old : List Chronon) (used i : ℕ) (lasts : List Chronon) → i < used → Spliced new old used i lasts
+    → Spliced new old used (i + 1) (set lasts i (getD new i (record { 0 = 0 })))
+spliced-step new old used i lasts l s = record {
+  long = s .long;
+  long-old = s .long-old;
+  few = s .few;
+  upto = omega arith;
+  mixed =
+      ap (λ (r : List Chronon). set r i (getD new i (record { 0 = 0 }))) (s .mixed)
+      ∙ splice new old i (record { 0 = 0 }) (omega (arith, s .long, s .few)) (omega (arith, s .long-old, s .few));
+}
+
+-- past 64 all places are new
+pub spliced-end : (new old : List Chronon) (used count i : ℕ) (lasts : List Chronon) → used ≡ min count 64 → used ≤ i
+    → Spliced new old used i lasts → lasts ≡ take count new ++ drop count old
+spliced-end new old used count i lasts is g s =
+    let e : i ≡ used = omega (arith, s .upto) in
+    s .mixed ∙ ap (λ (k : ℕ). take k new ++ drop k old) e ∙ ⊎-elim few many (le-or-lt count 64)
+  where
+    few : count ≤ 64 → take used new ++ drop used old ≡ take count new ++ drop count old
+    few l = let same : used ≡ count = omega arith in rw same
+
+    many : 64 < count → take used new ++ drop used old ≡ take count new ++ drop count old
+    many l =
+        let same : used ≡ 64 = omega arith in
+        rw (
+          take-all used new (omega (arith, s .long)),
+          take-all count new (omega (arith, s .long)),
+          drop-of-length-le old {i = used} (omega (arith, s .long-old)),
+          drop-of-length-le old {i = count} (omega (arith, s .long-old)),
+        )

@@ -1,10 +1,10 @@
 -- The partitioning (document 01: plan): its cuts (last minutes), its own checks, and the partition (lane) of a chronon.
 -- Partitions are counted from 0 here; document 01's lane 1 is partition 0. The laws are in proofs/Homes.antt.
 use mathlib.Core.Bool.{Bool, true, false, not, _&&_, _||_}
-use mathlib.Core.List.{List, [], _∷_, map}
+use mathlib.Core.List.{List, [], _∷_, _++_, map}
 use mathlib.Core.Path.{_≡_}
 use Prim.Native.Nat.{ℕ, zero, suc, _+_}
-use lib.ListN.{length, getD, take}
+use lib.ListN.{length, getD, take, drop}
 use lib.Dec.{leb, ltb, eqb}
 use Rattle.lists.specs.Choice.{pick, refuseIf, firstOf}
 use Rattle.interval.specs.Time.{calendarEnd, span}
@@ -60,6 +60,16 @@ startOf cs (suc i) = getD cs i 0 + 1
 -- the interval of partition i: from its first chronon to its last
 unfoldable pub intervalOf : Partitioning → ℕ → Interval
 intervalOf p i = span (startOf (cutsOf p) i) (getD (cutsOf p) i 0)
+
+-- "Recut replaces the plan's last minutes, n and capacities kept"; "those beyond n are ignored, and recut keeps what the old
+-- plan has there"
+unfoldable pub recutTo : Partitioning → List Chronon → Partitioning
+recutTo p new = record {
+  count = p .count;
+  lasts = take (p .count) new ++ drop (p .count) (p .lasts);
+  tuples = p .tuples;
+  rows = p .rows;
+}
 
 -- the interval that an answer stands for, if any
 abbrev pub boundsOf : Bounds → List Interval

@@ -2,7 +2,7 @@
 // partition. Cost: at most 64 comparisons.
 ghost use mathlib.Core.Path.{_≡_};
 ghost use lib.ListN.{take};
-ghost use Rattle.plan.specs.Plan.{numbers, cover, planNumber, home, boundsOf, boundsAt};
+ghost use Rattle.plan.specs.Plan.{numbers, cover, planNumber, home, recutTo, boundsOf, boundsAt};
 use interval::time::CALENDAR_END;
 use interval::time::Chronon;
 use interval::time::Interval;
@@ -121,4 +121,26 @@ pub fn interval_of(p: Partitioning, i: PartitionIndex) -> Bounds
         first: Chronon(before.0 + 1),
         last,
     })
+}
+
+// The plan with new last chronons in its first `count` places, and all else as it was.
+pub fn recut(p: Partitioning, new: [Chronon; 64]) -> Partitioning
+    ensures { λ r. ⌜ r ≡ recutTo p new ⌝ }
+{
+    let mut lasts = p.lasts;
+    let mut places: u64 = 64;
+    if p.count < 64 {
+        places = p.count;
+    }
+    let mut i: u64 = 0;
+    while i < places {
+        lasts[i as usize] = new[i as usize];
+        i += 1;
+    }
+    Partitioning {
+        count: p.count,
+        lasts,
+        tuples: p.tuples,
+        rows: p.rows,
+    }
 }

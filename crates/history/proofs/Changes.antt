@@ -1,0 +1,67 @@
+-- What insert and delete have in common: the partition of a legal tuple, the rows that it makes with the other side's
+-- store, and the rows partitions that share no chronon with it.
+-- Assumes nothing.
+use mathlib.Core.Bool.{true}
+use mathlib.Core.List.{List, _∷_, _++_}
+use mathlib.Core.Path.{_≡_, sym, _∙_, ap}
+use Prim.Native.Nat.{ℕ, _<_}
+use native.Mathlib.Omega.{arith}
+use lib.ListN.{length}
+use borrow.Author.Tests.{eq-eqb}
+use Rattle.lists.specs.Same.{Same}
+use Rattle.lists.proofs.Same.{same-refl, same-append}
+use Rattle.interval.specs.Tuple.{to, tupleNumber, legalTuple, sameRow}
+use Rattle.interval.specs.declared.tuple.Tuple.{Tuple}
+use Rattle.interval.proofs.Tuples.{legal-tuple, valid-ok}
+use Rattle.plan.specs.Plan.{planNumber, cutsOf, home}
+use Rattle.plan.specs.declared.Partitioning.{Partitioning}
+use Rattle.plan.proofs.Homes.{legal-plan, home-within, length-cuts}
+use Rattle.partition.specs.Store.{storedTuples}
+use Rattle.rows.specs.Join.{madeWith}
+use Rattle.rows.specs.declared.Side.{Side}
+use Rattle.rows.proofs.Joins.{made-same, apart-gains}
+use Rattle.join.specs.Changes.{made, Grown}
+use Rattle.history.specs.KeptCurrent.{Untouched}
+use Rattle.history.proofs.Held.{TuplesHeld, joinFrom, join-from-more}
+
+-- ---- a legal tuple belongs to one of the plan's partitions
+
+pub legal-by : (t : Tuple) → tupleNumber t ≡ 0 → legalTuple t ≡ true
+unfolding legalTuple
+legal-by t e = eq-eqb (tupleNumber t) 0 e
+
+pub home-in-plan : (p : Partitioning) → planNumber p ≡ 0 → length (p .lasts) ≡ 64 → (t : Tuple) → tupleNumber t ≡ 0
+    → home p (to t) < p .count
+unfolding home
+home-in-plan p legal places t e =
+    let plan = legal-plan p legal in
+    omega (
+      arith,
+      home-within (cutsOf p) (plan .covered) (to t) (valid-ok (t .valid) (legal-tuple t (legal-by t e) .valid) .1),
+      length-cuts p places (plan .most),
+    )
+
+-- ---- the rows that a tuple makes
+
+-- what a tuple makes with a store is what it makes with the tuples that the store holds
+made-held : (p : Partitioning) (side : Side) (t : Tuple) (ws : List ℕ) (us : List Tuple) → TuplesHeld p ws us
+    → Same sameRow (made p side t ws) (madeWith side t us)
+unfolding made
+made-held p side t ws us h = made-same side t (storedTuples p ws) us (h .held)
+
+-- the join with one tuple more, by the rows that the tuple makes with the other side's store
+pub join-made : (p : Partitioning) (side : Side) (t : Tuple) (ts us : List Tuple) (other : List ℕ)
+    → TuplesHeld p other us → Same sameRow (joinFrom side (t ∷ ts) us) (joinFrom side ts us ++ made p side t other)
+join-made p side t ts us other h =
+    let before = joinFrom side ts us in
+    λ r.
+    join-from-more side t ts us r
+    ∙ same-append sameRow before before (madeWith side t us) (made p side t other) (same-refl sameRow before)
+    (λ q. sym (made-held p side t other us h q)) r
+
+-- a partition that shares no chronon with the tuple gains nothing
+pub untouched : (p : Partitioning) → planNumber p ≡ 0 → length (p .lasts) ≡ 64 → (side : Side) (t : Tuple)
+    (other ws ws′ : List ℕ) → Grown p ws (made p side t other) ws′ → Untouched p t ws ws′
+unfolding made
+untouched p legal places side t other ws ws′ g i l e =
+    g .rest i l (ap length (apart-gains p legal places i l side t e (storedTuples p other)))

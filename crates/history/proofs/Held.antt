@@ -1,0 +1,101 @@
+-- A store that holds exactly the members of a list, each as often: what that says, that it goes by the members alone, and
+-- the empty store. Then both tuple stores and the rows store of their join, seen from one side.
+-- Assumes nothing.
+use mathlib.Core.Bool.{true}
+use mathlib.Core.List.{List, [], _∷_, _++_}
+use mathlib.Core.Path.{_≡_, _∙_, ap}
+use Prim.Native.Nat.{ℕ, _*_, _<_}
+use lib.Dec.{eqb}
+use lib.ListN.{length, replicate, length-replicate}
+use Rattle.lists.specs.Same.{Same, times}
+use Rattle.lists.proofs.Same.{same-refl, same-comm, same-keep}
+use Rattle.interval.specs.Tuple.{to, sameTuple, sameRow}
+use Rattle.interval.specs.declared.tuple.Tuple.{Tuple}
+use Rattle.interval.specs.declared.tuple.Row.{Row}
+use Rattle.interval.proofs.Tuples.{same-tuple-is}
+use Rattle.plan.specs.Plan.{home}
+use Rattle.plan.specs.declared.Partitioning.{Partitioning}
+use Rattle.part.specs.Part.{tuplesIn, rowsIn}
+use Rattle.part.proofs.Parts.{rows-empty}
+use Rattle.partition.specs.Store.{tupleRoom, rowRoom, tuplePart, rowPart, soundTuples, soundRows}
+use Rattle.partition.specs.Store.{storedTuples, tuplesAt, rowsAt}
+use Rattle.partition.proofs.Stores.{tuples-stored-at, empty-part, empty-tuples-sound, empty-rows-sound}
+use Rattle.partition.proofs.Stores.{empty-tuples-stored}
+use Rattle.rows.specs.Join.{joinOf, madeWith}
+use Rattle.rows.specs.declared.Side.{Side}
+use Rattle.rows.specs.declared.Side.the-variants.{Outer, Inner}
+use Rattle.rows.proofs.Joins.{join-outer-more, join-inner-more, join-same, rows-at-same}
+
+-- ---- one store
+
+-- a tuple store that holds ts
+pub record TuplesHeld (p : Partitioning) (ws : List ℕ) (ts : List Tuple) : Type 0 where
+  pub long : length ws ≡ p .count * tupleRoom p
+  pub sound : soundTuples p ws ≡ true
+  pub held : Same sameTuple (storedTuples p ws) ts
+
+-- the rows store that holds rs
+pub record RowsHeld (p : Partitioning) (ws : List ℕ) (rs : List Row) : Type 0 where
+  pub long : length ws ≡ p .count * rowRoom p
+  pub sound : soundRows p ws ≡ true
+  pub held : (i : ℕ) → i < p .count → Same sameRow (rowsIn (rowPart p ws i)) (rowsAt p i rs)
+
+-- each partition of the tuple store has those of ts that belong to it
+pub tuples-held-at : (p : Partitioning) (ws : List ℕ) (ts : List Tuple) → TuplesHeld p ws ts → (i : ℕ) → i < p .count
+    → Same sameTuple (tuplesIn (tuplePart p ws i)) (tuplesAt p i ts)
+unfolding tuplesAt
+tuples-held-at p ws ts h i l =
+    rw (← tuples-stored-at p ws (h .sound) i l)
+    (same-keep sameTuple same-tuple-is (λ (t : Tuple). eqb (home p (to t)) i) (storedTuples p ws) ts (h .held))
+
+-- any list with the same rows will do
+pub rows-held-same : (p : Partitioning) (ws : List ℕ) (rs rs′ : List Row) → RowsHeld p ws rs → Same sameRow rs rs′
+    → RowsHeld p ws rs′
+rows-held-same p ws rs rs′ h e = record {
+  long = h .long;
+  sound = h .sound;
+  held = λ i l r. h .held i l r ∙ rows-at-same p i rs rs′ e r;
+}
+
+-- stores of zeros, of the plan's lengths, hold nothing
+pub tuples-held-none : (p : Partitioning) → TuplesHeld p (replicate (p .count * tupleRoom p) 0) []
+tuples-held-none p = record {
+  long = length-replicate (p .count * tupleRoom p) 0;
+  sound = empty-tuples-sound p;
+  held = λ t. ap (times sameTuple t) (empty-tuples-stored p);
+}
+
+pub rows-held-none : (p : Partitioning) → RowsHeld p (replicate (p .count * rowRoom p) 0) []
+unfolding rowsAt
+rows-held-none p = record {
+  long = length-replicate (p .count * rowRoom p) 0;
+  sound = empty-rows-sound p;
+  held = λ i l r.
+      ap (times sameRow r) (ap rowsIn (empty-part (rowRoom p) (p .count) i l) ∙ rows-empty (rowRoom p));
+}
+
+-- ---- the join seen from one side: own tuples, and the other side's
+
+abbrev pub joinFrom : Side → List Tuple → List Tuple → List Row
+joinFrom Outer own other = joinOf own other
+joinFrom Inner own other = joinOf other own
+
+-- with one own tuple more
+pub join-from-more : (side : Side) (t : Tuple) (ts us : List Tuple)
+    → Same sameRow (joinFrom side (t ∷ ts) us) (joinFrom side ts us ++ madeWith side t us)
+join-from-more Outer t ts us =
+    rw (join-outer-more t ts us) (same-comm sameRow (madeWith Outer t us) (joinOf ts us))
+join-from-more Inner t ts us =
+    λ r. join-inner-more t us ts r ∙ same-comm sameRow (madeWith Inner t us) (joinOf us ts) r
+
+-- of own tuples that are the same
+pub join-from-same : (side : Side) (ts ts′ us : List Tuple) → Same sameTuple ts ts′
+    → Same sameRow (joinFrom side ts us) (joinFrom side ts′ us)
+join-from-same Outer ts ts′ us e = join-same ts ts′ us us e (same-refl sameTuple us)
+join-from-same Inner ts ts′ us e = join-same us us ts ts′ (same-refl sameTuple us) e
+
+-- the side's own store holds ts, the other side's us, and the rows store their join
+pub record Wall (p : Partitioning) (side : Side) (own other rows : List ℕ) (ts us : List Tuple) : Type 0 where
+  pub mine : TuplesHeld p own ts
+  pub theirs : TuplesHeld p other us
+  pub made-rows : RowsHeld p rows (joinFrom side ts us)

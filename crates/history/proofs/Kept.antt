@@ -1,0 +1,129 @@
+-- What every call keeps: the stores hold what the machine holds, by the plan in force, which is legal and has 64 places.
+-- In order: that it gives `Current`; the same seen from one side; what is to be shown of a call; a refused call.
+-- Assumes nothing.
+use mathlib.Core.Bool.{true}
+use mathlib.Core.List.{List}
+use mathlib.Core.Option.{some}
+use mathlib.Core.Path.{_≡_}
+use Prim.Native.Nat.{ℕ, _*_}
+use lib.Dec.{eqb}
+use lib.ListN.{length}
+use borrow.Author.Tests.{eq-eqb, ne-eqb}
+use Rattle.lists.proofs.Choice.{and-both, pick-true, pick-false}
+use Rattle.interval.specs.declared.tuple.Tuple.{Tuple}
+use Rattle.plan.specs.Plan.{planNumber, legalPlan}
+use Rattle.plan.specs.declared.Partitioning.{Partitioning}
+use Rattle.plan.proofs.Homes.{plan-legal-test}
+use Rattle.partition.specs.Store.{tupleRoom, rowRoom, fitsTuples, fitsRows, soundTuples, soundRows}
+use Rattle.rows.specs.Join.{joinOf}
+use Rattle.rows.specs.declared.Side.{Side}
+use Rattle.rows.specs.declared.Side.the-variants.{Outer, Inner}
+use Rattle.join.specs.Stores.{Stores, fitsAll, sound}
+use Rattle.join.specs.Changes.{ownStore, otherStore}
+use Rattle.join.proofs.Checks.{all-hold}
+use Rattle.history.specs.Machine.{Call, Machine, accept, told}
+use Rattle.history.specs.KeptCurrent.{Current, Owed}
+use Rattle.history.proofs.Held.{TuplesHeld, RowsHeld, Wall, tuples-held-at}
+
+pub record Kept (m : Machine) (p : Partitioning) (s : Stores) : Type 0 where
+  pub in-force : p ≡ m .plan
+  pub places : length (p .lasts) ≡ 64
+  pub legal : planNumber p ≡ 0
+  pub outer : TuplesHeld p (s .outer) (m .outer)
+  pub inner : TuplesHeld p (s .inner) (m .inner)
+  pub rows : RowsHeld p (s .rows) (joinOf (m .outer) (m .inner))
+
+-- ---- it says what the demand does
+
+long-tuples : (p : Partitioning) → planNumber p ≡ 0 → (n : ℕ) → n ≡ p .count * tupleRoom p → fitsTuples p n ≡ true
+unfolding fitsTuples
+long-tuples p l n e = and-both (legalPlan p) _ (plan-legal-test p l) (eq-eqb n (p .count * tupleRoom p) e)
+
+long-rows : (p : Partitioning) → planNumber p ≡ 0 → (n : ℕ) → n ≡ p .count * rowRoom p → fitsRows p n ≡ true
+unfolding fitsRows
+long-rows p l n e = and-both (legalPlan p) _ (plan-legal-test p l) (eq-eqb n (p .count * rowRoom p) e)
+
+pub kept-current-now : (m : Machine) (p : Partitioning) (s : Stores) → Kept m p s → Current m p s
+unfolding fitsAll sound
+kept-current-now m p s k = record {
+  in-force = k .in-force;
+  long =
+      all-hold (fitsTuples p (length (s .outer))) (fitsTuples p (length (s .inner))) (fitsRows p (length (s .rows)))
+      (long-tuples p (k .legal) (length (s .outer)) (k .outer .long))
+      (long-tuples p (k .legal) (length (s .inner)) (k .inner .long))
+      (long-rows p (k .legal) (length (s .rows)) (k .rows .long));
+  all-sound =
+      all-hold (soundTuples p (s .outer)) (soundTuples p (s .inner)) (soundRows p (s .rows)) (k .outer .sound)
+      (k .inner .sound) (k .rows .sound);
+  outer = tuples-held-at p (s .outer) (m .outer) (k .outer);
+  inner = tuples-held-at p (s .inner) (m .inner) (k .inner);
+  rows = k .rows .held;
+}
+
+-- ---- seen from one side
+
+-- the machine's tuples of the side, and of the other
+abbrev pub ownTuples : Side → Machine → List Tuple
+ownTuples Outer m = m .outer
+ownTuples Inner m = m .inner
+
+abbrev pub otherTuples : Side → Machine → List Tuple
+otherTuples Outer m = m .inner
+otherTuples Inner m = m .outer
+
+-- the machine with other tuples on the side
+abbrev pub withOwn : Side → List Tuple → Machine → Machine
+withOwn Outer ts m = record { plan = m .plan; outer = ts; inner = m .inner }
+withOwn Inner ts m = record { plan = m .plan; outer = m .outer; inner = ts }
+
+pub kept-from : (side : Side) (m : Machine) (p : Partitioning) (s : Stores) → Kept m p s
+    → Wall p side (ownStore side s) (otherStore side s) (s .rows) (ownTuples side m) (otherTuples side m)
+kept-from Outer m p s k = record { mine = k .outer; theirs = k .inner; made-rows = k .rows }
+kept-from Inner m p s k = record { mine = k .inner; theirs = k .outer; made-rows = k .rows }
+
+pub kept-with : (side : Side) (ts : List Tuple) (m : Machine) (p : Partitioning) (s s′ : Stores) → Kept m p s
+    → Wall p side (ownStore side s′) (otherStore side s′) (s′ .rows) ts (otherTuples side m)
+    → Kept (withOwn side ts m) p s′
+kept-with Outer ts m p s s′ k w = record {
+  in-force = k .in-force;
+  places = k .places;
+  legal = k .legal;
+  outer = w .mine;
+  inner = w .theirs;
+  rows = w .made-rows;
+}
+kept-with Inner ts m p s s′ k w = record {
+  in-force = k .in-force;
+  places = k .places;
+  legal = k .legal;
+  outer = w .theirs;
+  inner = w .mine;
+  rows = w .made-rows;
+}
+
+-- ---- one call
+
+-- the machine after the call, that the stores hold what it holds, and what is owed of the call
+pub record Done (m : Machine) (p : Partitioning) (s : Stores) (c : Call) (n : ℕ) (p′ : Partitioning) (s′ : Stores)
+    : Type 0 where
+  pub after : Machine
+  pub machine : told (record { call = c; number = n }) m ≡ some after
+  pub kept : Kept after p′ s′
+  pub owed : Owed p s c n p′ s′ (some after)
+
+-- what the machine makes of an accepted call, and of a refused one
+pub told-accepted : (c : Call) (n : ℕ) (m : Machine) → n ≡ 0 → told (record { call = c; number = n }) m ≡ accept c m
+told-accepted c n m e = pick-true (eqb n 0) (accept c m) (some m) (eq-eqb n 0 e)
+
+pub told-refused : (c : Call) (n : ℕ) (m : Machine) → (n ≡ 0 → ⊥) → told (record { call = c; number = n }) m ≡ some m
+told-refused c n m ne = pick-false (eqb n 0) (accept c m) (some m) (ne-eqb n 0 ne)
+
+-- a refused call changes neither plan nor stores
+pub done-refused : (m : Machine) (p p′ : Partitioning) (s s′ : Stores) (c : Call) (n : ℕ) → (n ≡ 0 → ⊥) → Kept m p s
+    → p′ ≡ p → s′ ≡ s → Owed p s c n p′ s′ (some m) → Done m p s c n p′ s′
+done-refused m p p′ s s′ c n ne k e f o = record {
+  after = m;
+  machine = told-refused c n m ne;
+  kept = rw (e, f) k;
+  owed = o;
+}

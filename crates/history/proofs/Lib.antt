@@ -1,0 +1,10 @@
+-- The proof of demand 3: what a store holds, what every call keeps, each call, every list of calls.
+pub mod Held
+pub mod Kept
+pub mod Changes
+pub mod Inserts
+pub mod Deletes
+pub mod Sweeps
+pub mod Repartitions
+pub mod Current
+pub mod TenCases

@@ -1,0 +1,225 @@
+-- Repartition keeps the stores current: it is accepted on an empty wall only, and empty stores hold nothing under the new
+-- plan too, which is legal and has 64 places.
+-- Assumes nothing.
+use mathlib.Core.Bool.{Bool, true, not, _&&_}
+use mathlib.Core.List.{List, [], _∷_, map-append}
+use mathlib.Core.Logic.{_⊎_, inl, inr}
+use mathlib.Core.Option.{Option, none, some}
+use mathlib.Core.Path.{_≡_, refl, sym, _∙_, ap}
+use Prim.Native.Nat.{ℕ, zero, suc, _≤_, _<_}
+use native.Mathlib.Omega.{arith}
+use lib.Dec.{eqb}
+use lib.ListN.{length, take, drop, length-append, length-drop, length-map}
+use lib.Seq.{take-at, length-take-le}
+use borrow.Author.Tests.{eqb-true, not-false}
+use Rattle.lists.specs.Choice.{refuseIf}
+use Rattle.lists.specs.Members.{below}
+use Rattle.lists.specs.Same.{Same, times}
+use Rattle.lists.proofs.Choice.{and-left, and-right, first-none, refuse-none}
+use Rattle.lists.proofs.Below.{all-below, gather-cong-below}
+use Rattle.lists.proofs.Gather.{gather-nil}
+use Rattle.lists.proofs.Same.{same-refl}
+use Rattle.interval.specs.Tuple.{tupleWidth, tupleOf, rowWidth, rowOf, sameTuple, sameRow}
+use Rattle.interval.specs.declared.time.Chronon.{Chronon}
+use Rattle.interval.specs.declared.tuple.Tuple.{Tuple}
+use Rattle.interval.specs.declared.tuple.Row.{Row}
+use Rattle.plan.specs.Plan.{numbers, cutsOf, cover, planNumber, recutTo}
+use Rattle.plan.specs.declared.Partitioning.{Partitioning}
+use Rattle.plan.proofs.Homes.{legal-plan, plan-legal}
+use Rattle.part.specs.Part.{counted, soundPart, tuplesIn}
+use Rattle.part.proofs.Parts.{sound-tail, part-sound, records-none, tuples-none, rows-none}
+use Rattle.partition.specs.Store.{tupleRoom, rowRoom, partitionAt, tuplePart, rowPart, tupleAtHome, rowAtHome}
+use Rattle.partition.specs.Store.{soundTuplePart, soundRowPart, storedTuples, rowsAt}
+use Rattle.partition.proofs.Stores.{sound-tuples-at, sound-rows-at, tuples-sound-by, rows-sound-by}
+use Rattle.rows.specs.Join.{joinOf}
+use Rattle.rows.proofs.Joins.{join-same, join-empty-left, rows-at-same}
+use Rattle.join.specs.Stores.{Stores, storeNumber}
+use Rattle.join.specs.Repartitioning.{emptyStore, emptyWall, repartitionNumber, Repartitioned}
+use Rattle.join.specs.declared.Answer.{Answer}
+use Rattle.history.specs.Machine.{repartition, Machine}
+use Rattle.history.proofs.Held.{TuplesHeld, RowsHeld}
+use Rattle.history.proofs.Kept.{Kept, Done, told-accepted, done-refused}
+
+-- ---- the new plan
+
+numbers-take : (n : ℕ) (ms : List Chronon) → numbers (take n ms) ≡ take n (numbers ms)
+numbers-take zero ms = refl
+numbers-take (suc n) [] = refl
+numbers-take (suc n) (m ∷ ms) = rw (numbers-take n ms)
+
+module _ (p : Partitioning) (new : List Chronon) (long : length new ≡ 64) (places : length (p .lasts) ≡ 64)
+    (legal : planNumber p ≡ 0) where
+  few : p .count ≤ 64
+  few = legal-plan p legal .most
+
+  -- its cuts are the new ones
+  recut-cuts : cutsOf (recutTo p new) ≡ take (p .count) (numbers new)
+  unfolding cutsOf recutTo
+  recut-cuts =
+      ap (take (p .count)) (map-append (λ (m : Chronon). m .0) (take (p .count) new) (drop (p .count) (p .lasts)))
+      ∙ take-at (numbers (take (p .count) new)) (numbers (drop (p .count) (p .lasts))) (p .count)
+      (length-map (take (p .count) new) (λ (m : Chronon). m .0)
+      ∙ length-take-le (p .count) new (omega (arith, few)))
+      ∙ numbers-take (p .count) new
+
+  pub recut-places : length (recutTo p new .lasts) ≡ 64
+  unfolding recutTo
+  recut-places =
+      omega (
+        arith,
+        few,
+        length-append (take (p .count) new) (drop (p .count) (p .lasts)),
+        length-take-le (p .count) new (omega (arith, few)),
+        length-drop (p .count) (p .lasts),
+      )
+
+  pub recut-legal : cover (take (p .count) (numbers new)) ≡ true → planNumber (recutTo p new) ≡ 0
+  unfolding recutTo
+  recut-legal e =
+      let plan = legal-plan p legal in
+      plan-legal (recutTo p new)
+      (record {
+        least = plan .least;
+        most = plan .most;
+        covered = ap cover recut-cuts ∙ e;
+        tuples-least = plan .tuples-least;
+        tuples-most = plan .tuples-most;
+        rows-least = plan .rows-least;
+        rows-most = plan .rows-most;
+      })
+
+-- ---- empty stores
+
+-- a sound part without records is sound whatever is asked of a record
+none-sound : (w capacity : ℕ) (ok ok′ : List ℕ → Bool) (part : List ℕ) → soundPart w capacity ok part ≡ true
+    → counted part ≡ 0 → soundPart w capacity ok′ part ≡ true
+none-sound w capacity ok ok′ part s e =
+    part-sound w capacity ok′ part (omega (arith, e)) (rw (records-none w part e)) (sound-tail w capacity ok part s)
+
+-- every partition of an empty store counts none
+count-none : (room n : ℕ) (ws : List ℕ) → emptyStore room n ws ≡ true → (i : ℕ) → i < n
+    → counted (partitionAt room ws i) ≡ 0
+unfolding emptyStore
+count-none room n ws e i l =
+    eqb-true (counted (partitionAt room ws i)) 0
+    (all-below (λ i. eqb (counted (partitionAt room ws i)) 0) n e i l)
+
+-- an empty tuple store holds nothing
+stored-none : (p : Partitioning) (ws : List ℕ) → emptyStore (tupleRoom p) (p .count) ws ≡ true → storedTuples p ws ≡ []
+unfolding storedTuples
+stored-none p ws e =
+    gather-cong-below (λ i. tuplesIn (tuplePart p ws i)) (λ i. []) (p .count)
+    (λ i l. tuples-none (tuplePart p ws i) (count-none (tupleRoom p) (p .count) ws e i l))
+    ∙ gather-nil (λ i. []) (below (p .count)) (λ i. refl)
+
+held-none : (p : Partitioning) (ws : List ℕ) (ts : List Tuple) → TuplesHeld p ws ts
+    → emptyStore (tupleRoom p) (p .count) ws ≡ true → Same sameTuple [] ts
+held-none p ws ts h e = rw (stored-none p ws e) at (h .held)
+
+-- under the new plan it holds what it held, and so does an empty rows store
+tuples-recut : (p : Partitioning) (new : List Chronon) (ws : List ℕ) (ts : List Tuple) → TuplesHeld p ws ts
+    → emptyStore (tupleRoom p) (p .count) ws ≡ true → TuplesHeld (recutTo p new) ws ts
+unfolding recutTo storedTuples soundTuplePart
+tuples-recut p new ws ts h e = record {
+  long = h .long;
+  sound =
+      tuples-sound-by (recutTo p new) ws
+      (λ i l.
+      none-sound tupleWidth (p .tuples) (λ ws. tupleAtHome p i (tupleOf ws))
+      (λ ws. tupleAtHome (recutTo p new) i (tupleOf ws)) (tuplePart p ws i) (sound-tuples-at p ws (h .sound) i l)
+      (count-none (tupleRoom p) (p .count) ws e i l));
+  held = h .held;
+}
+
+rows-recut : (p : Partitioning) (new : List Chronon) (ws : List ℕ) (rs : List Row) → RowsHeld p ws rs
+    → emptyStore (rowRoom p) (p .count) ws ≡ true → Same sameRow [] rs → RowsHeld (recutTo p new) ws rs
+unfolding recutTo soundRowPart rowsAt
+rows-recut p new ws rs h e q = record {
+  long = h .long;
+  sound =
+      rows-sound-by (recutTo p new) ws
+      (λ i l.
+      none-sound rowWidth (p .rows) (λ ws. rowAtHome p i (rowOf ws))
+      (λ ws. rowAtHome (recutTo p new) i (rowOf ws)) (rowPart p ws i) (sound-rows-at p ws (h .sound) i l)
+      (count-none (rowRoom p) (p .count) ws e i l));
+  held = λ i l r.
+      ap (times sameRow r) (rows-none (rowPart p ws i) (count-none (rowRoom p) (p .count) ws e i l))
+      ∙ rows-at-same (recutTo p new) i [] rs q r;
+}
+
+-- ---- the call
+
+-- what check 2 of the new cuts and check 13 say where the call is accepted
+passed : (p : Partitioning) (new : List Chronon) (s : Stores) → repartitionNumber p new s ≡ 0
+    → (cover (take (p .count) (numbers new)) ≡ true) × (emptyWall p s ≡ true)
+unfolding repartitionNumber
+passed p new s e =
+    let covers = cover (take (p .count) (numbers new)) in
+    let a = first-none (storeNumber p s) _ e in
+    let b = first-none (refuseIf (not covers) 2) _ (a .1) in
+    let c = first-none (refuseIf (not (emptyWall p s)) 13) _ (b .1) in (
+      not-false covers (refuse-none (not covers) 1 (b .0)),
+      not-false (emptyWall p s) (refuse-none (not (emptyWall p s)) 12 (c .0)),
+    )
+
+-- each store is empty
+record Empty (p : Partitioning) (s : Stores) : Type 0 where
+  pub outer : emptyStore (tupleRoom p) (p .count) (s .outer) ≡ true
+  pub inner : emptyStore (tupleRoom p) (p .count) (s .inner) ≡ true
+  pub rows : emptyStore (rowRoom p) (p .count) (s .rows) ≡ true
+
+all-empty : (p : Partitioning) (s : Stores) → emptyWall p s ≡ true → Empty p s
+unfolding emptyWall
+all-empty p s e =
+    let o = emptyStore (tupleRoom p) (p .count) (s .outer) in
+    let i = emptyStore (tupleRoom p) (p .count) (s .inner) in
+    let r = emptyStore (rowRoom p) (p .count) (s .rows) in
+    record {
+      outer = and-left o (i && r) e;
+      inner = and-left i r (and-right o (i && r) e);
+      rows = and-right i r (and-right o (i && r) e);
+    }
+
+module _ (m : Machine) (p p′ : Partitioning) (new : List Chronon) (s s′ : Stores) (a : Answer) (k : Kept m p s)
+    (long : length new ≡ 64) (called : Repartitioned p new s s′ a p′) where
+  abbrev recut : Machine
+  recut = record { plan = recutTo (m .plan) new; outer = m .outer; inner = m .inner }
+
+  kept-recut : a .number ≡ 0 → Kept recut (recutTo p new) s
+  kept-recut z =
+      let e = passed p new s (sym (called .number) ∙ z) in
+      let n = all-empty p s (e .1) in
+      record {
+        in-force = ap (λ (q : Partitioning). recutTo q new) (k .in-force);
+        places = recut-places p new long (k .places) (k .legal);
+        legal = recut-legal p new long (k .places) (k .legal) (e .0);
+        outer = tuples-recut p new (s .outer) (m .outer) (k .outer) (n .outer);
+        inner = tuples-recut p new (s .inner) (m .inner) (k .inner) (n .inner);
+        rows =
+            rows-recut p new (s .rows) (joinOf (m .outer) (m .inner)) (k .rows) (n .rows)
+            (rw (join-empty-left (m .inner)) at
+            (join-same [] (m .outer) (m .inner) (m .inner)
+            (held-none p (s .outer) (m .outer) (k .outer) (n .outer)) (same-refl sameTuple (m .inner))));
+      }
+
+  accepted-kept : a .number ≡ 0 → Kept recut p′ s′
+  accepted-kept z = rw (called .accepted z, called .kept) (kept-recut z)
+
+  -- the plan of a machine that is there
+  plan-of : (q : Partitioning) (n : Machine) → q ≡ n .plan → (o : Machine) → some n ≡ some o → q ≡ o .plan
+  plan-of q n e o h = e ∙ ap plan-or h
+    where
+      plan-or : Option Machine → Partitioning
+      plan-or (some x) = x .plan
+      plan-or none = q
+
+  pub repartition-done : (a .number ≡ 0) ⊎ (a .number ≡ 0 → ⊥) → Done m p s (repartition new) (a .number) p′ s′
+  repartition-done (inl z) = record {
+    after = recut;
+    machine = told-accepted (repartition new) (a .number) m z;
+    kept = accepted-kept z;
+    owed = plan-of p′ recut (accepted-kept z .in-force);
+  }
+  repartition-done (inr ne) =
+      done-refused m p p′ s s′ (repartition new) (a .number) ne k (called .refused ne) (called .kept)
+      (plan-of p′ m (called .refused ne ∙ k .in-force))
