@@ -128,9 +128,9 @@ pub fn recut(p: Partitioning, new: [Chronon; 64]) -> Partitioning
     ensures { λ r. ⌜ r ≡ recutTo p new ⌝ }
 {
     let mut lasts = p.lasts;
-    let mut places: u64 = 64;
-    if p.count < 64 {
-        places = p.count;
+    let mut places = p.count;
+    if 64 < places {
+        places = 64;
     }
     let mut i: u64 = 0;
     while i < places {

@@ -18,7 +18,7 @@ Inv-loop p new lasts₀ used i₀ lasts i = Spliced new lasts₀ used i lasts
 abbrev μ-loop : tie.MeasureT-loop
 μ-loop p new lasts₀ used i₀ lasts i = used - i
 
-used-is : (c : tie.Joined1 Inv-loop μ-loop) → c .if1 .places ≡ min (c .before .before .before .args .p .count) 64
+used-is : (c : tie.Joined1 Inv-loop μ-loop) → c .if1 .places ≡ min (c .before .before .args .p .count) 64
 used-is c = ⊎-elim (λ w. omega arith) (λ w. omega arith) (c .if1 .came)
 
 long : (c : tie.Start Inv-loop μ-loop) → length (c .args .p .lasts) ≡ 64
@@ -29,9 +29,9 @@ long-new c = omega arith
 
 loop-holds : tie.Need-loop-holds Inv-loop μ-loop
 loop-holds c =
-    let a = c .before .before .before .args in
-    spliced-start (a .t2) (a .p .lasts) (c .if1 .places) (long-new (c .before .before .before))
-    (long (c .before .before .before)) (omega (arith, used-is c))
+    let a = c .before .before .args in
+    spliced-start (a .t2) (a .p .lasts) (c .if1 .places) (long-new (c .before .before))
+    (long (c .before .before)) (omega (arith, used-is c))
 
 mul-lasts : tie.Need-mul-lasts Inv-loop μ-loop
 mul-lasts c = omega arith
@@ -59,7 +59,7 @@ loop-again c =
 returns : tie.Need-returns Inv-loop μ-loop
 unfolding recutTo
 returns c =
-    let a = c .before .before .before .before .before .args in
+    let a = c .before .before .before .before .args in
     let e = spliced-end (a .t2) (a .p .lasts) (c .before .before .if1 .places) (a .p .count) (c .before .loop .i) (c .before .loop .lasts)
     (used-is (c .before .before)) (c .loop-test .left) (c .before .loop .inv) in
     λ k. record { count = a .p .count; lasts = e k; tuples = a .p .tuples; rows = a .p .rows }
