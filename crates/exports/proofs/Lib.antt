@@ -1,0 +1,3 @@
+-- The laws of this crate, in a reader's order.
+pub mod Words
+pub mod Exporting

@@ -1,0 +1,161 @@
+-- Laws of the layout: a run of words copied place by place; an answer's three words; last minutes as words and back;
+-- the plan that words say, and after last minutes are put into them; that nothing of a plan's words is lost; and the
+-- plan that a repartition returns.
+-- Assumes nothing.
+use mathlib.Core.List.{List, [], _∷_, _++_, append-nil}
+use mathlib.Core.Logic.{⊎-elim}
+use mathlib.Core.Path.{_≡_, refl, sym, _∙_, ap}
+use Prim.Native.Nat.{ℕ, _+_, _≤_, _<_}
+use native.Mathlib.Numerals.{add-one}
+use native.Mathlib.Omega.{arith}
+use lib.Dec.{eqb}
+use lib.ListN.{length, getD, take, drop, set, length-take, length-drop, length-append, length-map, List·getD-map}
+use lib.ListN.{drop-of-length-le}
+use lib.Seq.{paste, paste-zero, paste-suc, length-paste, take-all, getD-take, getD-drop}
+use borrow.Author.Tests.{eqb-true, eqb-false}
+use Rattle.lists.proofs.Choice.{bool-cases}
+use Rattle.interval.specs.declared.time.Chronon.{Chronon}
+use Rattle.plan.specs.Plan.{numbers, recutTo}
+use Rattle.plan.specs.declared.Partitioning.{Partitioning}
+use Rattle.join.specs.Stores.{Stores}
+use Rattle.join.specs.Repartitioning.{Repartitioned}
+use Rattle.join.specs.declared.Answer.{Answer}
+use Rattle.exports.specs.Exports.{planWords, minutes, planIn}
+
+-- ---- copying: the first i members of `source` stand in `whole` from place `at` on, all else as it was
+
+pub record Copied {A : Type 0} (whole : List A) (at : ℕ) (source : List A) (i : ℕ) (words : List A) : Type 0 where
+  pub fits : at + length source ≤ length whole
+  pub upto : i ≤ length source
+  pub holds : words ≡ paste whole at source i
+
+module _ {A : Type 0} (whole : List A) (at : ℕ) (source : List A) where
+  pub copied-none : at + length source ≤ length whole → Copied whole at source 0 whole
+  copied-none l = record { fits = l; upto = omega arith; holds = paste-zero whole at source }
+
+  pub copied-length : (i : ℕ) (words : List A) → Copied whole at source i words → length words ≡ length whole
+  copied-length i words s =
+      ap length (s .holds) ∙ length-paste whole at source i (omega (arith, s .fits, s .upto)) (s .upto)
+
+  -- the store of a turn, at place k, of the value v
+  pub copied-more : (i k : ℕ) (words : List A) (v d : A) → i < length source → k ≡ at + i → v ≡ getD source i d
+      → Copied whole at source i words → Copied whole at source (i + 1) (set words k v)
+  copied-more i k words v d l e f s = record {
+    fits = s .fits;
+    upto = omega arith;
+    holds =
+        rw (s .holds, e, f, add-one) (paste-suc whole at source i d (omega (arith, s .fits)) l);
+  }
+
+  -- all are copied, up to the end
+  pub copied-all : (i : ℕ) (words : List A) → length source ≤ i → at + length source ≡ length whole
+      → Copied whole at source i words → words ≡ take at whole ++ source
+  copied-all i words l e s =
+      s .holds
+      ∙ rw (take-all i source l, drop-of-length-le whole {i = at + i} (omega arith), append-nil)
+
+-- ---- an answer's words
+
+pub three-told : (ws : List ℕ) (x y z : ℕ) → length ws ≡ 3 → set (set (set ws 0 x) 1 y) 2 z ≡ x ∷ (y ∷ (z ∷ []))
+three-told [] x y z e = absurd (omega arith)
+three-told (a ∷ []) x y z e = absurd (omega arith)
+three-told (a ∷ (b ∷ [])) x y z e = absurd (omega arith)
+three-told (a ∷ (b ∷ (c ∷ []))) x y z e = refl
+three-told (a ∷ (b ∷ (c ∷ (d ∷ ws)))) x y z e = absurd (omega arith)
+
+-- ---- last minutes as words
+
+pub minutes-of-numbers : (ms : List Chronon) → minutes (numbers ms) ≡ ms
+minutes-of-numbers [] = refl
+minutes-of-numbers (m ∷ ms) = ap (λ (r : List Chronon). m ∷ r) (minutes-of-numbers ms)
+
+pub numbers-of-minutes : (ws : List ℕ) → numbers (minutes ws) ≡ ws
+numbers-of-minutes [] = refl
+numbers-of-minutes (w ∷ ws) = ap (λ (r : List ℕ). w ∷ r) (numbers-of-minutes ws)
+
+-- 64 of them, from a place on: how many, and each
+pub length-minutes-at : (from : ℕ) (ws : List ℕ) → from + 64 ≤ length ws
+    → length (minutes (take 64 (drop from ws))) ≡ 64
+length-minutes-at from ws l = simp (length-map, length-take, length-drop) (omega arith)
+
+pub minute-at : (from i : ℕ) (ws : List ℕ) → i < 64
+    → record { 0 = getD ws (from + i) 0 } ≡ getD (minutes (take 64 (drop from ws))) i (record { 0 = 0 })
+minute-at from i ws l =
+    sym
+    (List·getD-map (λ (m : ℕ). record { 0 = m }) (take 64 (drop from ws)) i 0
+    ∙ ap (λ (m : ℕ). record { 0 = m }) (getD-take 64 (drop from ws) i 0 l ∙ getD-drop from ws i 0))
+
+-- all of 64 words
+pub minutes-whole : (ws : List ℕ) → length ws ≡ 64 → minutes (take 64 (drop 0 ws)) ≡ minutes ws
+minutes-whole ws e = ap minutes (take-all 64 ws (omega arith))
+
+-- ---- a plan's words
+
+-- the plan with these last minutes, and the rest from words
+abbrev pub withLasts : List ℕ → List Chronon → Partitioning
+withLasts ws lasts = record { count = getD ws 0 0; lasts = lasts; tuples = getD ws 1 0; rows = getD ws 2 0 }
+
+-- it is what the words say, where the last minutes are theirs
+pub plan-said : (ws : List ℕ) (lasts : List Chronon) → lasts ≡ minutes (take 64 (drop 3 ws))
+    → withLasts ws lasts ≡ planIn ws
+unfolding planIn
+plan-said ws lasts e = ap (withLasts ws) e
+
+-- and what they say once its last minutes are put into them
+pub plan-put : (ws : List ℕ) (lasts : List Chronon) → length ws ≡ planWords → length lasts ≡ 64
+    → planIn (take 3 ws ++ numbers lasts) ≡ withLasts ws lasts
+unfolding planIn
+plan-put [] lasts e l = absurd (omega arith)
+plan-put (a ∷ []) lasts e l = absurd (omega arith)
+plan-put (a ∷ (b ∷ [])) lasts e l = absurd (omega arith)
+plan-put (a ∷ (b ∷ (c ∷ ws))) lasts e l =
+    let put : minutes (take 64 (numbers lasts)) ≡ lasts =
+    ap minutes (take-all 64 (numbers lasts) (rw length-map (omega arith))) ∙ minutes-of-numbers lasts in
+    ap (λ (r : List Chronon). withLasts (a ∷ (b ∷ (c ∷ ws))) r) put
+
+-- the words of a plan, and that nothing of them is lost
+abbrev pub wordsIn : Partitioning → List ℕ
+wordsIn p = p .count ∷ (p .tuples ∷ (p .rows ∷ numbers (p .lasts)))
+
+pub plan-words : (ws : List ℕ) → length ws ≡ planWords → wordsIn (planIn ws) ≡ ws
+unfolding planIn
+plan-words [] e = absurd (omega arith)
+plan-words (a ∷ []) e = absurd (omega arith)
+plan-words (a ∷ (b ∷ [])) e = absurd (omega arith)
+plan-words (a ∷ (b ∷ (c ∷ ws))) e =
+    ap (λ (r : List ℕ). a ∷ (b ∷ (c ∷ r)))
+    (numbers-of-minutes (take 64 ws) ∙ take-all 64 ws (omega arith))
+
+pub plan-words-whole : (ws vs : List ℕ) → length ws ≡ planWords → length vs ≡ planWords → planIn ws ≡ planIn vs
+    → ws ≡ vs
+plan-words-whole ws vs e f h = sym (plan-words ws e) ∙ ap wordsIn h ∙ plan-words vs f
+
+-- ---- the plan that a repartition returns: with its last minutes put into them, the words say it
+
+module _ (ws : List ℕ) (e : length ws ≡ planWords) where
+  put-back : (lasts : List Chronon) (q : Partitioning) → length lasts ≡ 64 → q ≡ withLasts ws lasts
+      → planIn (take 3 ws ++ numbers (q .lasts)) ≡ q
+  put-back lasts q l h =
+      ap (λ (r : Partitioning). planIn (take 3 ws ++ numbers (r .lasts))) h ∙ plan-put ws lasts e l ∙ sym h
+
+  put-kept : (q : Partitioning) → q ≡ planIn ws → planIn (take 3 ws ++ numbers (q .lasts)) ≡ q
+  put-kept q h =
+      let lasts = minutes (take 64 (drop 3 ws)) in
+      put-back lasts q (length-minutes-at 3 ws (omega arith)) (h ∙ sym (plan-said ws lasts refl))
+
+  put-new : (new : List Chronon) (q : Partitioning) → length new ≡ 64 → q ≡ recutTo (planIn ws) new
+      → planIn (take 3 ws ++ numbers (q .lasts)) ≡ q
+  unfolding recutTo planIn
+  put-new new q l h =
+      let n = getD ws 0 0 in
+      let old = minutes (take 64 (drop 3 ws)) in
+      let long = length-minutes-at 3 ws (omega arith) in
+      put-back (take n new ++ drop n old) q
+      (simp (length-append, length-take, length-drop) (omega arith)) h
+
+  pub plan-put-back : (new : List Chronon) (s s′ : Stores) (a : Answer) (q : Partitioning) → length new ≡ 64
+      → Repartitioned (planIn ws) new s s′ a q → planIn (take 3 ws ++ numbers (q .lasts)) ≡ q
+  plan-put-back new s s′ a q l r =
+      ⊎-elim (λ t. put-new new q l (r .accepted (eqb-true (a .number) 0 t)))
+      (λ t. put-kept q (r .refused (eqb-false (a .number) 0 t)))
+      (bool-cases (eqb (a .number) 0))

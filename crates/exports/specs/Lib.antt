@@ -1,0 +1,2 @@
+-- The definitions of this crate, in a reader's order.
+pub mod Exports

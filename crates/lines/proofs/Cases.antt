@@ -1,0 +1,145 @@
+-- Closed cases that compute: lines and what they say. One table, one theorem; the accepted ones print back.
+-- Assumes nothing.
+use mathlib.Core.List.{List, [], _∷_, _++_, map}
+use mathlib.Core.Path.{_≡_, refl}
+use Prim.Native.Nat.{ℕ}
+use Prim.Native.Char.{code}
+use Prim.Native.String.{String, [] as []ₛ, _∷_ as _∷ₛ_}
+use lib.ListN.{length, replicate}
+use Rattle.interval.specs.Time.{span}
+use Rattle.interval.specs.Label.{rank, isLetter, isLabel, labelNumber, lettersOf}
+use Rattle.lines.specs.Fields.{isNumber, valueOf, digitsOf}
+use Rattle.lines.specs.Line.{laneOf, changeOf, worded, formOf, lineOf, printed}
+use Rattle.lines.specs.declared.Word.{Word}
+use Rattle.lines.specs.declared.Word.the-variants.{DrawIn, DrawOut, SpotIn, SpotOut}
+use Rattle.lines.specs.declared.Line.{Line}
+use Rattle.lines.specs.declared.Line.the-variants.{Lane, Change, Malformed}
+
+-- ---- how a case is written
+
+abbrev bytes : String → List ℕ
+bytes []ₛ = []
+bytes (c ∷ₛ s) = code c ∷ bytes s
+
+pub record Case : Type 0 where
+  pub line : List ℕ
+  pub says : Line
+
+-- a lane's last minute; a change's word, label number, item, first and last minute
+abbrev lane : String → ℕ → Case
+lane s n = record { line = bytes s; says = Lane (record { 0 = n }) }
+
+abbrev change : String → Word → ℕ → ℕ → ℕ → ℕ → Case
+change s w l n a b =
+    record { line = bytes s; says = Change w (record { label = l; item = n; valid = span a b }) }
+
+-- 15, "not of the form below"
+abbrev refused : List ℕ → Case
+refused bs = record { line = bs; says = Malformed }
+
+abbrev bad : String → Case
+bad s = refused (bytes s)
+
+-- ---- the table
+
+-- document 01's example
+abbrev pub example : List Case
+example =
+    lane "lane,34" 34
+    ∷ (lane "lane,40" 40
+    ∷ (lane "lane,99999999" 99999999
+    ∷ (change "drawin,AL,10,30,31" DrawIn 38 10 30 31
+    ∷ (change "drawin,AL,11,32,32" DrawIn 38 11 32 32
+    ∷ (change "drawin,AL,10,33,40" DrawIn 38 10 33 40
+    ∷ (change "drawin,AL,11,41,48" DrawIn 38 11 41 48
+    ∷ (change "spotin,AL,1,30,35" SpotIn 38 1 30 35
+    ∷ (change "spotin,AL,2,36,48" SpotIn 38 2 36 48
+    ∷ []))))))))
+
+-- the other words; the smallest and the largest of each field, in the longest line that there is; a number above
+-- 999,999 and a first minute after the last are of the form, and left to checks 7 and 8
+abbrev pub edges : List Case
+edges =
+    lane "lane,0" 0
+    ∷ (change "drawin,A,0,0,0" DrawIn 1 0 0 0
+    ∷ (change "drawin,ABCDEFGH,0,0,0" DrawIn 8687205886 0 0 0
+    ∷ (change "drawout,AL,10,30,31" DrawOut 38 10 30 31
+    ∷ (change "spotout,AL,1,30,35" SpotOut 38 1 30 35
+    ∷ (change "drawout,ZZZZZZZZ,99999999,99999999,99999999" DrawOut 217180147158 99999999 99999999 99999999
+    ∷ (change "spotin,Z,1000000,9,3" SpotIn 26 1000000 9 3
+    ∷ []))))))
+
+-- a lane line: no number, a leading 0, nine digits, a field too few or too many, another byte before or after
+abbrev pub lanes : List Case
+lanes =
+    bad "lane,00"
+    ∷ (bad "lane,099"
+    ∷ (bad "lane,100000000"
+    ∷ (bad "lane,000000001"
+    ∷ (bad "lane,"
+    ∷ (bad "lane"
+    ∷ (bad "lane,1,2"
+    ∷ (bad "lane,1,"
+    ∷ (bad "lane,/"
+    ∷ (bad "lane,:"
+    ∷ (bad "lane,-1"
+    ∷ (bad "lane, 1"
+    ∷ (bad "lane,1\r"
+    ∷ (bad "Lane,1"
+    ∷ (bad "lanes,1"
+    ∷ (bad "lan,1"
+    ∷ (bad "drawin,1"
+    ∷ []))))))))))))))))
+
+-- a change: no label, nine letters, small letters, a number that is none, a field too few or too many, another word
+abbrev pub changes : List Case
+changes =
+    bad "drawin,ABCDEFGHI,0,0,0"
+    ∷ (bad "drawin,al,1,1,1"
+    ∷ (bad "drawin,,1,1,1"
+    ∷ (bad "drawin,A1,1,1,1"
+    ∷ (bad "drawin,AL,1,2"
+    ∷ (bad "drawin,AL,1,2,3,4"
+    ∷ (bad "drawin,AL,1,2,3,"
+    ∷ (bad "drawin,AL,01,2,3"
+    ∷ (bad "drawin,AL,1,,3"
+    ∷ (bad "drawin,AL,1,2,123456789"
+    ∷ (bad "drawin,AL,10,30,31 "
+    ∷ (bad " drawin,AL,10,30,31"
+    ∷ (bad "drawin;AL;10;30;31"
+    ∷ (bad "draw,AL,1,1,1"
+    ∷ (bad "lane,AL,1,1,1"
+    ∷ []))))))))))))))
+
+-- no byte, a comma alone, and the limit: 80 bytes and 81. A line of the form has at most 43 (line-length), so the first
+-- of these two is refused by its second field, the other by its length too
+abbrev pub long : ℕ → List ℕ
+long k = bytes "lane," ++ replicate k 49
+
+abbrev pub lengths : List Case
+lengths = refused [] ∷ (bad "," ∷ (refused (long 75) ∷ (refused (long 76) ∷ [])))
+
+abbrev pub accepted : List Case
+accepted = example ++ edges
+
+abbrev pub table : List Case
+table = accepted ++ (lanes ++ (changes ++ lengths))
+
+-- ---- the theorems
+
+-- each line says what the table has for it
+pub cases-hold : map (λ (c : Case). lineOf (c .line)) table ≡ map (λ (c : Case). c .says) table
+unfolding isNumber valueOf rank isLetter isLabel labelNumber laneOf changeOf worded formOf lineOf
+cases-hold = refl
+
+-- the accepted ones, printed, are the lines
+pub accepted-print : map (λ (c : Case). printed (c .says)) accepted ≡ map (λ (c : Case). c .line) accepted
+unfolding digitsOf lettersOf
+accepted-print = refl
+
+-- the last two lines have 80 and 81 bytes, and the longest that is accepted has 43
+pub long-lengths :
+    (length (long 75) ≡ 80)
+    × (length (long 76) ≡ 81)
+    × (length (bytes "drawout,ZZZZZZZZ,99999999,99999999,99999999") ≡ 43)
+long-lengths = (refl, refl, refl)

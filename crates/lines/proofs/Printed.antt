@@ -1,0 +1,288 @@
+-- A line and its value: the format is unambiguous.
+-- In order: the shape of a line that is not refused, a lane's or a change's; printing its value gives the line back
+-- (print-back), so two lines with one value are one line (line-unique); the bounds of what a line gives; how long a
+-- line is at most, which leaves the limit of 80 bytes nothing to refuse (limit-idle).
+-- Assumes nothing.
+use mathlib.Core.Bool.{Bool, true, false, _&&_}
+use mathlib.Core.List.{List, [], _∷_, _++_}
+use mathlib.Core.Logic.{_⊎_, inl, inr, ⊎-elim}
+use mathlib.Core.Path.{_≡_, refl, sym, _∙_, ap, subst}
+use Prim.Native.Nat.{ℕ, _≤_}
+use native.Mathlib.Omega.{arith}
+use lib.Dec.{leb}
+use lib.ListN.{length, length-append}
+use borrow.Author.Tests.{le-ltb, leb-true, leb-false}
+use Rattle.lists.specs.Choice.{pick}
+use Rattle.lists.proofs.Choice.{and-left, and-right}
+use Rattle.interval.specs.Time.{calendarEnd, span}
+use Rattle.interval.specs.Label.{labelEnd, isLabel, labelNumber, labelCheck}
+use Rattle.interval.specs.Tuple.{from, to}
+use Rattle.interval.specs.declared.time.Chronon.{Chronon}
+use Rattle.interval.specs.declared.tuple.Tuple.{Tuple}
+use Rattle.interval.proofs.Labels.{letters-of-label, label-range}
+use Rattle.lines.specs.Fields.{comma, fieldsOf, sameBytes, isNumber, valueOf}
+use Rattle.lines.specs.Line.{lineLength, laneBytes, bytesOf, laneOf, changeOf, worded, formOf, lineOf}
+use Rattle.lines.specs.Line.{lineNumber, printed}
+use Rattle.lines.specs.declared.Word.{Word}
+use Rattle.lines.specs.declared.Word.the-variants.{DrawIn, DrawOut, SpotIn, SpotOut}
+use Rattle.lines.specs.declared.Line.{Line}
+use Rattle.lines.specs.declared.Line.the-variants.{Lane, Change, Malformed}
+use Rattle.lines.proofs.Fields.{joined, join-fields, same-bytes-is}
+use Rattle.lines.proofs.Numbers.{number-parts, digits-of-number, value-most}
+
+-- ---- the shape of a line
+
+-- `lane,LAST`
+pub record LaneShape (line : Line) (bs : List ℕ) : Type 0 where
+  pub m : List ℕ
+  pub number : isNumber m ≡ true
+  pub bytes : bs ≡ laneBytes ++ (comma ∷ m)
+  pub reads : line ≡ Lane (record { 0 = valueOf m })
+
+-- a word, then `,LABEL,NUMBER,FIRST,LAST`
+pub record ChangeShape (line : Line) (bs : List ℕ) : Type 0 where
+  pub word : Word
+  pub l : List ℕ
+  pub n : List ℕ
+  pub a : List ℕ
+  pub b : List ℕ
+  pub label : isLabel l ≡ true
+  pub item : isNumber n ≡ true
+  pub first : isNumber a ≡ true
+  pub last : isNumber b ≡ true
+  pub bytes : bs ≡ bytesOf word ++ (comma ∷ (l ++ (comma ∷ (n ++ (comma ∷ (a ++ (comma ∷ b)))))))
+  pub reads :
+      line
+      ≡ Change word (record { label = labelNumber l; item = valueOf n; valid = span (valueOf a) (valueOf b) })
+
+abbrev pub Shape : Line → List ℕ → Type 0
+Shape line bs = (line ≡ Malformed) ⊎ (LaneShape line bs ⊎ ChangeShape line bs)
+
+lane-shape : (w m : List ℕ) → Shape (pick (sameBytes w laneBytes) (laneOf m) Malformed) (w ++ (comma ∷ m))
+unfolding laneOf
+lane-shape w m = go (sameBytes w laneBytes) (isNumber m) refl refl
+  where
+    go : (s t : Bool) → sameBytes w laneBytes ≡ s → isNumber m ≡ t
+        → Shape (pick s (pick t (Lane (record { 0 = valueOf m })) Malformed) Malformed) (w ++ (comma ∷ m))
+    go false t e f = inl refl
+    go true false e f = inl refl
+    go true true e f =
+        inr
+        (inl
+        (record {
+          m = m;
+          number = f;
+          bytes = ap (λ (v : List ℕ). v ++ (comma ∷ m)) (same-bytes-is w laneBytes e);
+          reads = refl;
+        }))
+
+change-shape : (w : List ℕ) (v : Word) (l n a b : List ℕ) → w ≡ bytesOf v
+    → Shape (changeOf v l n a b) (w ++ (comma ∷ (l ++ (comma ∷ (n ++ (comma ∷ (a ++ (comma ∷ b))))))))
+unfolding changeOf
+change-shape w v l n a b e = go (isLabel l && (isNumber n && (isNumber a && isNumber b))) refl
+  where
+    go : (t : Bool) → (isLabel l && (isNumber n && (isNumber a && isNumber b))) ≡ t
+        → Shape
+        (pick t
+        (Change v (record { label = labelNumber l; item = valueOf n; valid = span (valueOf a) (valueOf b) }))
+        Malformed)
+        (w ++ (comma ∷ (l ++ (comma ∷ (n ++ (comma ∷ (a ++ (comma ∷ b))))))))
+    go false f = inl refl
+    go true f =
+        let g = and-right (isLabel l) _ f in
+        let h = and-right (isNumber n) _ g in
+        inr
+        (inr
+        (record {
+          word = v;
+          l = l;
+          n = n;
+          a = a;
+          b = b;
+          label = and-left (isLabel l) _ f;
+          item = and-left (isNumber n) _ g;
+          first = and-left (isNumber a) _ h;
+          last = and-right (isNumber a) _ h;
+          bytes =
+              ap (λ (u : List ℕ). u ++ (comma ∷ (l ++ (comma ∷ (n ++ (comma ∷ (a ++ (comma ∷ b)))))))) e;
+          reads = refl;
+        }))
+
+worded-shape : (w l n a b : List ℕ)
+    → Shape (worded w (λ v. changeOf v l n a b)) (w ++ (comma ∷ (l ++ (comma ∷ (n ++ (comma ∷ (a ++ (comma ∷ b))))))))
+unfolding worded
+worded-shape w l n a b =
+    go (sameBytes w (bytesOf DrawIn)) (sameBytes w (bytesOf DrawOut)) (sameBytes w (bytesOf SpotIn))
+    (sameBytes w (bytesOf SpotOut)) refl refl refl refl
+  where
+    go : (s t u v : Bool) → sameBytes w (bytesOf DrawIn) ≡ s → sameBytes w (bytesOf DrawOut) ≡ t
+        → sameBytes w (bytesOf SpotIn) ≡ u → sameBytes w (bytesOf SpotOut) ≡ v
+        → Shape
+        (pick s (changeOf DrawIn l n a b)
+        (pick t (changeOf DrawOut l n a b)
+        (pick u (changeOf SpotIn l n a b) (pick v (changeOf SpotOut l n a b) Malformed))))
+        (w ++ (comma ∷ (l ++ (comma ∷ (n ++ (comma ∷ (a ++ (comma ∷ b))))))))
+    go true t u v e f g h = change-shape w DrawIn l n a b (same-bytes-is w (bytesOf DrawIn) e)
+    go false true u v e f g h = change-shape w DrawOut l n a b (same-bytes-is w (bytesOf DrawOut) f)
+    go false false true v e f g h = change-shape w SpotIn l n a b (same-bytes-is w (bytesOf SpotIn) g)
+    go false false false true e f g h = change-shape w SpotOut l n a b (same-bytes-is w (bytesOf SpotOut) h)
+    go false false false false e f g h = inl refl
+
+form-shape : (fs : List (List ℕ)) → Shape (formOf fs) (joined fs)
+unfolding formOf
+form-shape (w ∷ (m ∷ [])) = lane-shape w m
+form-shape (w ∷ (l ∷ (n ∷ (a ∷ (b ∷ []))))) = worded-shape w l n a b
+form-shape [] = inl refl
+form-shape (w ∷ []) = inl refl
+form-shape (w ∷ (l ∷ (n ∷ []))) = inl refl
+form-shape (w ∷ (l ∷ (n ∷ (a ∷ [])))) = inl refl
+form-shape (w ∷ (l ∷ (n ∷ (a ∷ (b ∷ (c ∷ more)))))) = inl refl
+
+-- a line is malformed, or of one of the two shapes
+pub line-shape : (bs : List ℕ) → Shape (lineOf bs) bs
+unfolding lineOf
+line-shape bs = go (leb (length bs) lineLength)
+  where
+    go : (t : Bool) → Shape (pick t (formOf (fieldsOf bs)) Malformed) bs
+    go true = subst (λ (cs : List ℕ). Shape (formOf (fieldsOf bs)) cs) (join-fields bs) (form-shape (fieldsOf bs))
+    go false = inl refl
+
+-- ---- printing
+
+print-lane : (line : Line) (bs : List ℕ) → LaneShape line bs → printed line ≡ bs
+print-lane line bs s =
+    ap printed (s .reads)
+    ∙ ap (λ (ds : List ℕ). laneBytes ++ (comma ∷ ds)) (digits-of-number (s .m) (s .number))
+    ∙ sym (s .bytes)
+
+print-change : (line : Line) (bs : List ℕ) → ChangeShape line bs → printed line ≡ bs
+print-change line bs s =
+    ap printed (s .reads)
+    ∙ rw (
+      letters-of-label (s .l) (s .label),
+      digits-of-number (s .n) (s .item),
+      digits-of-number (s .a) (s .first),
+      digits-of-number (s .b) (s .last),
+    )
+    (sym (s .bytes))
+
+malformed-no : (line : Line) → lineNumber line ≡ 0 → line ≡ Malformed → ⊥
+malformed-no line h e = omega (arith, sym (ap lineNumber e) ∙ h)
+
+-- printing an accepted line's value gives the line back
+pub print-back : (bs : List ℕ) → lineNumber (lineOf bs) ≡ 0 → printed (lineOf bs) ≡ bs
+print-back bs h =
+    ⊎-elim (λ e. absurd (malformed-no (lineOf bs) h e))
+    (⊎-elim (print-lane (lineOf bs) bs) (print-change (lineOf bs) bs)) (line-shape bs)
+
+-- so no value has two lines
+pub line-unique : (xs ys : List ℕ) → lineNumber (lineOf xs) ≡ 0 → lineOf xs ≡ lineOf ys → xs ≡ ys
+line-unique xs ys h e =
+    sym (print-back xs h) ∙ ap printed e ∙ print-back ys (ap lineNumber (sym e) ∙ h)
+
+-- ---- bounds
+
+-- a lane's last minute lies in the calendar
+pub line-lane-most : (bs : List ℕ) (m : Chronon) → lineOf bs ≡ Lane m → m .0 ≤ calendarEnd
+line-lane-most bs m e = ⊎-elim none (⊎-elim lane change) (line-shape bs)
+  where
+    none : lineOf bs ≡ Malformed → m .0 ≤ calendarEnd
+    none f = let z : _≡_ {A = ℕ} 0 1 = cc in absurd (omega arith)
+
+    lane : LaneShape (lineOf bs) bs → m .0 ≤ calendarEnd
+    lane s =
+        let q : m ≡ record { 0 = valueOf (s .m) } = cc (s .reads) in
+        omega (arith, ap (λ (x : Chronon). x .0) q, value-most (s .m) (s .number))
+
+    change : ChangeShape (lineOf bs) bs → m .0 ≤ calendarEnd
+    change s = let z : _≡_ {A = ℕ} 0 1 = cc (s .reads) in absurd (omega arith)
+
+-- a change's label is a label's number, so check 6 never applies to it; its other numbers have at most eight digits
+pub record ChangeBounds (t : Tuple) : Type 0 where
+  pub label : labelCheck (t .label) ≡ 0
+  pub item : t .item ≤ 99999999
+  pub first : from t ≤ calendarEnd
+  pub last : to t ≤ calendarEnd
+
+label-passes : (bs : List ℕ) → isLabel bs ≡ true → labelCheck (labelNumber bs) ≡ 0
+unfolding labelCheck
+label-passes bs h =
+    let r = label-range bs h in
+    rw (le-ltb (labelNumber bs) 1 (r .0), le-ltb labelEnd (labelNumber bs) (r .1))
+
+pub line-change-bounds : (bs : List ℕ) (w : Word) (t : Tuple) → lineOf bs ≡ Change w t → ChangeBounds t
+line-change-bounds bs w t e = ⊎-elim none (⊎-elim lane change) (line-shape bs)
+  where
+    none : lineOf bs ≡ Malformed → ChangeBounds t
+    none f = let z : _≡_ {A = ℕ} 0 1 = cc in absurd (omega arith)
+
+    lane : LaneShape (lineOf bs) bs → ChangeBounds t
+    lane s = let z : _≡_ {A = ℕ} 0 1 = cc (s .reads) in absurd (omega arith)
+
+    change : ChangeShape (lineOf bs) bs → ChangeBounds t
+    change s =
+        let q : record {
+          label = labelNumber (s .l);
+          item = valueOf (s .n);
+          valid = span (valueOf (s .a)) (valueOf (s .b));
+        } ≡ t = cc (s .reads) in
+        subst (λ (u : Tuple). ChangeBounds u) q
+        (record {
+          label = label-passes (s .l) (s .label);
+          item = value-most (s .n) (s .item);
+          first = value-most (s .a) (s .first);
+          last = value-most (s .b) (s .last);
+        })
+
+-- ---- length
+
+number-short : (bs : List ℕ) → isNumber bs ≡ true → length bs ≤ 8
+number-short bs h = number-parts bs h .most
+
+label-short : (bs : List ℕ) → isLabel bs ≡ true → length bs ≤ 8
+unfolding isLabel
+label-short bs h = leb-true (length bs) 8 (and-left (leb (length bs) 8) _ (and-right (leb 1 (length bs)) _ h))
+
+word-short : (w : Word) → length (bytesOf w) ≤ 7
+word-short DrawIn = omega arith
+word-short DrawOut = omega arith
+word-short SpotIn = omega arith
+word-short SpotOut = omega arith
+
+shape-length : (line : Line) (bs : List ℕ) → Shape line bs → (line ≡ Malformed) ⊎ (length bs ≤ 43)
+shape-length line bs s = ⊎-elim (λ e. inl e) (λ t. inr (⊎-elim lane change t)) s
+  where
+    lane : LaneShape line bs → length bs ≤ 43
+    lane u = rw (u .bytes) (omega (arith, number-short (u .m) (u .number)))
+
+    change : ChangeShape line bs → length bs ≤ 43
+    change u =
+        rw (u .bytes)
+        (simp length-append
+        (omega (
+          arith,
+          word-short (u .word),
+          label-short (u .l) (u .label),
+          number-short (u .n) (u .item),
+          number-short (u .a) (u .first),
+          number-short (u .b) (u .last),
+        )))
+
+-- a line that is not refused has at most 43 bytes
+pub line-length : (bs : List ℕ) → lineNumber (lineOf bs) ≡ 0 → length bs ≤ 43
+line-length bs h =
+    ⊎-elim (λ e. absurd (malformed-no (lineOf bs) h e)) (λ l. l) (shape-length (lineOf bs) bs (line-shape bs))
+
+-- so a line of more than 80 bytes has not the form either
+pub limit-idle : (bs : List ℕ) → lineOf bs ≡ formOf (fieldsOf bs)
+unfolding lineOf
+limit-idle bs = go (leb (length bs) lineLength) refl
+  where
+    form : Shape (formOf (fieldsOf bs)) bs
+    form = subst (λ (cs : List ℕ). Shape (formOf (fieldsOf bs)) cs) (join-fields bs) (form-shape (fieldsOf bs))
+
+    go : (t : Bool) → leb (length bs) lineLength ≡ t → pick t (formOf (fieldsOf bs)) Malformed ≡ formOf (fieldsOf bs)
+    go true e = refl
+    go false e =
+        ⊎-elim (λ f. sym f) (λ l. absurd (omega (arith, leb-false (length bs) 80 e)))
+        (shape-length (formOf (fieldsOf bs)) bs form)

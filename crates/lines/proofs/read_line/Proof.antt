@@ -1,0 +1,195 @@
+-- `lines::read_line` meets its contract: by the bytes before the first comma, a lane's last minute or a change.
+-- Assumes nothing.
+use mathlib.Core.Path.{sym, _∙_}
+use native.Mathlib.Omega.{arith}
+use borrow.Author.Needs.{needs}
+use Rattle.lines.proofs.Forms.{line-long, line-none, line-lane, line-change, line-other}
+use Rattle.lines.specs.declared.Word.the-variants.{DrawIn, DrawOut, SpotIn, SpotOut}
+use Rattle.lines.proofs.read_line.Statement.{statement}
+use Rattle.lines.proofs.read_line.Tie as tie
+
+returns : tie.Need-returns
+returns c = line-long (c .before .before .args .line .now) (omega arith)
+
+comma-from-requires : tie.Need-comma-from-requires
+comma-from-requires c κs = search needs
+
+returns-2 : tie.Need-returns-2
+returns-2 c =
+    let k = c .before .comma-from in
+    line-none (c .before .before .before .before .args .line .now) (omega arith) (k .result) (k .ensures)
+    (omega arith)
+
+sub-word : tie.Need-sub-word
+sub-word c = search needs
+
+part-word-start : tie.Need-part-word-start
+part-word-start c = search needs
+
+part-word-end : tie.Need-part-word-end
+part-word-end c = search needs
+
+add-rest : tie.Need-add-rest
+add-rest c = search needs
+
+sub-rest : tie.Need-sub-rest
+sub-rest c = search needs
+
+part-rest-start : tie.Need-part-rest-start
+part-rest-start c = search needs
+
+part-rest-end : tie.Need-part-rest-end
+part-rest-end c = search needs
+
+slice-aggregate-same : tie.Need-slice-aggregate-same
+slice-aggregate-same c = search needs
+
+same-requires : tie.Need-same-requires
+same-requires c κs = search needs
+
+read-lane-requires : tie.Need-read-lane-requires
+read-lane-requires c κs = search needs
+
+returns-3 : tie.Need-returns-3
+returns-3 c =
+    let c5 = c .before .before .before .before .before in
+    let c10 = c5 .before .before .before .before .before in
+    let bs = c10 .args .line .now in
+    let k = c5 .before .before .comma-from in
+    line-lane bs (omega (arith, c5 .before .before .before .if1 .left)) (k .result) (k .ensures)
+    (c .read-lane .result) (omega (arith, c5 .before .if2 .left))
+    (sym (c .before .before .same .ensures) ∙ c .before .if3 .taken) (c .read-lane .ensures)
+
+slice-aggregate-same-2 : tie.Need-slice-aggregate-same-2
+slice-aggregate-same-2 c = search needs
+
+same-requires-2 : tie.Need-same-requires-2
+same-requires-2 c κs = search needs
+
+read-change-requires : tie.Need-read-change-requires
+read-change-requires c κs = search needs
+
+returns-4 : tie.Need-returns-4
+returns-4 c =
+    let c5 = c .before .before .before .before .before in
+    let c10 = c5 .before .before .before .before .before in
+    let bs = c10 .before .before .before .args .line .now in
+    let k = c10 .comma-from in
+    line-change bs (omega (arith, c10 .before .if1 .left)) (k .result) (k .ensures) (c .read-change .result) DrawIn
+    (omega (arith, c5 .before .before .before .before .if2 .left))
+    (sym (c .before .before .same2 .ensures) ∙ c .before .if4 .taken) (c .read-change .ensures)
+
+slice-aggregate-same-3 : tie.Need-slice-aggregate-same-3
+slice-aggregate-same-3 c = search needs
+
+same-requires-3 : tie.Need-same-requires-3
+same-requires-3 c κs = search needs
+
+read-change-requires-2 : tie.Need-read-change-requires-2
+read-change-requires-2 c κs = search needs
+
+returns-5 : tie.Need-returns-5
+returns-5 c =
+    let c5 = c .before .before .before .before .before in
+    let c10 = c5 .before .before .before .before .before in
+    let c15 = c10 .before .before .before .before .before in
+    let bs = c15 .before .args .line .now in
+    let k = c10 .before .before .before .comma-from in
+    line-change bs (omega (arith, c10 .before .before .before .before .if1 .left)) (k .result) (k .ensures)
+    (c .read-change2 .result) DrawOut (omega (arith, c10 .before .before .if2 .left))
+    (sym (c .before .before .same3 .ensures) ∙ c .before .if5 .taken) (c .read-change2 .ensures)
+
+slice-aggregate-same-4 : tie.Need-slice-aggregate-same-4
+slice-aggregate-same-4 c = search needs
+
+same-requires-4 : tie.Need-same-requires-4
+same-requires-4 c κs = search needs
+
+read-change-requires-3 : tie.Need-read-change-requires-3
+read-change-requires-3 c κs = search needs
+
+returns-6 : tie.Need-returns-6
+returns-6 c =
+    let c5 = c .before .before .before .before .before in
+    let c10 = c5 .before .before .before .before .before in
+    let c15 = c10 .before .before .before .before .before in
+    let bs = c15 .before .before .before .before .args .line .now in
+    let k = c15 .before .comma-from in
+    line-change bs (omega (arith, c15 .before .before .if1 .left)) (k .result) (k .ensures)
+    (c .read-change3 .result) SpotIn (omega (arith, c15 .if2 .left))
+    (sym (c .before .before .same4 .ensures) ∙ c .before .if6 .taken) (c .read-change3 .ensures)
+
+slice-aggregate-same-5 : tie.Need-slice-aggregate-same-5
+slice-aggregate-same-5 c = search needs
+
+same-requires-5 : tie.Need-same-requires-5
+same-requires-5 c κs = search needs
+
+read-change-requires-4 : tie.Need-read-change-requires-4
+read-change-requires-4 c κs = search needs
+
+returns-7 : tie.Need-returns-7
+returns-7 c =
+    let c5 = c .before .before .before .before .before in
+    let c10 = c5 .before .before .before .before .before in
+    let c15 = c10 .before .before .before .before .before in
+    let c20 = c15 .before .before .before .before .before in
+    let bs = c20 .before .before .args .line .now in
+    let k = c15 .before .before .before .before .comma-from in
+    line-change bs (omega (arith, c20 .if1 .left)) (k .result) (k .ensures) (c .read-change4 .result) SpotOut
+    (omega (arith, c15 .before .before .before .if2 .left))
+    (sym (c .before .before .same5 .ensures) ∙ c .before .if7 .taken) (c .read-change4 .ensures)
+
+returns-8 : tie.Need-returns-8
+returns-8 c =
+    let c5 = c .before .before .before .before .before in
+    let c10 = c5 .before .before .before .before .before in
+    let c15 = c10 .before .before .before .before .before in
+    let c20 = c15 .before .before .before .before .before in
+    let bs = c20 .before .args .line .now in
+    let k = c15 .before .before .before .comma-from in
+    line-other bs (omega (arith, c15 .before .before .before .before .if1 .left)) (k .result) (k .ensures)
+    (omega (arith, c15 .before .before .if2 .left))
+    (record {
+      lane = sym (c10 .before .before .before .same .ensures) ∙ c10 .before .before .if3 .left;
+      drawin = sym (c10 .same2 .ensures) ∙ c5 .before .before .before .before .if4 .left;
+      drawout = sym (c5 .before .before .same3 .ensures) ∙ c5 .before .if5 .left;
+      spotin = sym (c .before .before .before .before .same4 .ensures) ∙ c .before .before .before .if6 .left;
+      spotout = sym (c .before .same5 .ensures) ∙ c .if7 .left;
+    })
+
+pub read-line-spec : {M : Type 1} → statement M
+read-line-spec =
+    tie.close
+    (tie.spec
+    returns
+    comma-from-requires
+    returns-2
+    sub-word
+    part-word-start
+    part-word-end
+    add-rest
+    sub-rest
+    part-rest-start
+    part-rest-end
+    slice-aggregate-same
+    same-requires
+    read-lane-requires
+    returns-3
+    slice-aggregate-same-2
+    same-requires-2
+    read-change-requires
+    returns-4
+    slice-aggregate-same-3
+    same-requires-3
+    read-change-requires-2
+    returns-5
+    slice-aggregate-same-4
+    same-requires-4
+    read-change-requires-3
+    returns-6
+    slice-aggregate-same-5
+    same-requires-5
+    read-change-requires-4
+    returns-7
+    returns-8)

@@ -1,0 +1,94 @@
+-- A line (document 01, "Lines and the program"): its form, its value, and the line that a value prints as.
+use mathlib.Core.Bool.{_&&_}
+use mathlib.Core.List.{List, [], _∷_, _++_}
+use Prim.Native.Nat.{ℕ}
+use lib.Dec.{leb}
+use lib.ListN.{length}
+use Rattle.lists.specs.Choice.{pick}
+use Rattle.interval.specs.Time.{span}
+use Rattle.interval.specs.Label.{isLabel, labelNumber, lettersOf}
+use Rattle.interval.specs.Tuple.{from, to}
+use Rattle.lines.specs.Fields.{comma, fieldsOf, sameBytes, isNumber, valueOf, digitsOf}
+use Rattle.lines.specs.declared.Word.{Word}
+use Rattle.lines.specs.declared.Word.the-variants.{DrawIn, DrawOut, SpotIn, SpotOut}
+use Rattle.lines.specs.declared.Line.{Line}
+use Rattle.lines.specs.declared.Line.the-variants.{Lane, Change, Malformed}
+
+-- "A line is at most 80 bytes before its byte 10"
+abbrev pub lineLength : ℕ
+lineLength = 80
+
+-- the words, as bytes: `lane`, `drawin`, `drawout`, `spotin`, `spotout`
+abbrev pub laneBytes : List ℕ
+laneBytes = 108 ∷ (97 ∷ (110 ∷ (101 ∷ [])))
+
+abbrev pub bytesOf : Word → List ℕ
+bytesOf DrawIn = 100 ∷ (114 ∷ (97 ∷ (119 ∷ (105 ∷ (110 ∷ [])))))
+bytesOf DrawOut = 100 ∷ (114 ∷ (97 ∷ (119 ∷ (111 ∷ (117 ∷ (116 ∷ []))))))
+bytesOf SpotIn = 115 ∷ (112 ∷ (111 ∷ (116 ∷ (105 ∷ (110 ∷ [])))))
+bytesOf SpotOut = 115 ∷ (112 ∷ (111 ∷ (116 ∷ (111 ∷ (117 ∷ (116 ∷ []))))))
+
+-- `lane,LAST`
+unfoldable pub laneOf : List ℕ → Line
+laneOf m = pick (isNumber m) (Lane (record { 0 = valueOf m })) Malformed
+
+-- a word, then `,LABEL,NUMBER,FIRST,LAST`
+unfoldable pub changeOf : Word → List ℕ → List ℕ → List ℕ → List ℕ → Line
+changeOf w l n a b =
+    pick (isLabel l && (isNumber n && (isNumber a && isNumber b)))
+    (Change w (record { label = labelNumber l; item = valueOf n; valid = span (valueOf a) (valueOf b) }))
+    Malformed
+
+-- the fields of a change after its word, and those after its label and its number
+unfoldable pub changeForm : Word → List (List ℕ) → Line
+changeForm w (l ∷ (n ∷ (a ∷ (b ∷ [])))) = changeOf w l n a b
+changeForm w [] = Malformed
+changeForm w (l ∷ []) = Malformed
+changeForm w (l ∷ (n ∷ [])) = Malformed
+changeForm w (l ∷ (n ∷ (a ∷ []))) = Malformed
+changeForm w (l ∷ (n ∷ (a ∷ (b ∷ (c ∷ more))))) = Malformed
+
+unfoldable pub spanForm : Word → ℕ → ℕ → List (List ℕ) → Line
+spanForm w label item (a ∷ (b ∷ [])) =
+    pick (isNumber a && isNumber b)
+    (Change w (record { label = label; item = item; valid = span (valueOf a) (valueOf b) }))
+    Malformed
+spanForm w label item [] = Malformed
+spanForm w label item (a ∷ []) = Malformed
+spanForm w label item (a ∷ (b ∷ (c ∷ more))) = Malformed
+
+-- the change of the word that the first field is
+unfoldable pub worded : List ℕ → (Word → Line) → Line
+worded w f =
+    pick (sameBytes w (bytesOf DrawIn)) (f DrawIn)
+    (pick (sameBytes w (bytesOf DrawOut)) (f DrawOut)
+    (pick (sameBytes w (bytesOf SpotIn)) (f SpotIn) (pick (sameBytes w (bytesOf SpotOut)) (f SpotOut) Malformed)))
+
+-- "Fields stand in fixed order": two for a lane, five for a change
+unfoldable pub formOf : List (List ℕ) → Line
+formOf (w ∷ (m ∷ [])) = pick (sameBytes w laneBytes) (laneOf m) Malformed
+formOf (w ∷ (l ∷ (n ∷ (a ∷ (b ∷ []))))) = worded w (λ v. changeOf v l n a b)
+formOf [] = Malformed
+formOf (w ∷ []) = Malformed
+formOf (w ∷ (l ∷ (n ∷ []))) = Malformed
+formOf (w ∷ (l ∷ (n ∷ (a ∷ [])))) = Malformed
+formOf (w ∷ (l ∷ (n ∷ (a ∷ (b ∷ (c ∷ more)))))) = Malformed
+
+-- the value of a line, given the bytes before its byte 10
+unfoldable pub lineOf : List ℕ → Line
+lineOf bs = pick (leb (length bs) lineLength) (formOf (fieldsOf bs)) Malformed
+
+-- document 01's number for it: 15, "not of the form below"
+abbrev pub lineNumber : Line → ℕ
+lineNumber (Lane m) = 0
+lineNumber (Change w t) = 0
+lineNumber Malformed = 15
+
+-- the line that prints a value
+abbrev pub printed : Line → List ℕ
+printed (Lane m) = laneBytes ++ (comma ∷ digitsOf (m .0))
+printed (Change w t) =
+    bytesOf w
+    ++ (comma ∷ (lettersOf (t .label)
+    ++ (comma ∷ (digitsOf (t .item) ++ (comma ∷ (digitsOf (from t) ++ (comma ∷ digitsOf (to t))))))))
+printed Malformed = []

@@ -1,0 +1,11 @@
+-- The laws of this crate: the order of rows; sorting a lane, and all lanes; writing text, digits; the text's length;
+-- what store and text are determined by; the checks and answers of `write`; the closed cases.
+pub mod Orders
+pub mod Arranging
+pub mod Lanes
+pub mod Writing
+pub mod Digits
+pub mod Bounds
+pub mod Determined
+pub mod Reports
+pub mod Cases

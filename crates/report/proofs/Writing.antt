@@ -1,0 +1,156 @@
+-- Putting text into a buffer piece by piece (specs/Steps: written, Put). In order: one piece after another; `Left`,
+-- what is left to put, the invariant of every writer, with its laws; one byte; the fields of a row's line, the rows
+-- of a lane, the lanes, each as the next piece and what is left after it; letters.
+-- Assumes nothing.
+use mathlib.Core.List.{List, [], _∷_, _++_, append-assoc, append-nil}
+use mathlib.Core.Path.{_≡_, refl, sym, ap, ap₂, _∙_}
+use Prim.Native.Nat.{ℕ, _+_, _-_, _≤_, _<_}
+use native.Mathlib.Nat.{add-zero}
+use native.Mathlib.Numerals.{add-one}
+use native.Mathlib.Omega.{arith}
+use lib.ListN.{length, getD, take, drop, set, replicate, length-append, length-drop, take-append-drop}
+use lib.ListN.{drop-of-length-le}
+use lib.Seq.{length-take-le, take-at, drop-at, drop-drop, drop-cons, set-split}
+use Rattle.lists.specs.Members.{gather, upFrom}
+use Rattle.lists.proofs.Below.{up-next, up-end}
+use Rattle.interval.specs.Label.{labelLength, lettersOf, LettersWritten}
+use Rattle.interval.specs.declared.label.Letters.{Letters}
+use Rattle.interval.specs.declared.tuple.Row.{Row}
+use Rattle.lines.specs.Fields.{comma, digitsOf}
+use Rattle.report.specs.Text.{lineEnd, ended, rowLine}
+use Rattle.report.specs.Steps.{written, Put}
+
+-- ---- one piece after another
+
+-- nothing put
+written-none : (at : ℕ) (out : List ℕ) → written at [] out ≡ out
+written-none at out = rw add-zero (take-append-drop at out)
+
+module _ (at : ℕ) (s : List ℕ) (out : List ℕ) (h : at + length s ≤ length out) where
+  -- what is before the next place, and what is after it
+  head : List ℕ
+  head = take at out ++ s
+
+  head-length : length head ≡ at + length s
+  unfolding head
+  head-length = length-append (take at out) s ∙ ap (λ (n : ℕ). n + length s) (length-take-le at out (omega arith))
+
+  written-head : written at s out ≡ head ++ drop (at + length s) out
+  unfolding head
+  written-head = sym (append-assoc (take at out) s (drop (at + length s) out))
+
+  pub written-length : length (written at s out) ≡ length out
+  written-length =
+      ap length written-head ∙ length-append head (drop (at + length s) out)
+      ∙ omega (arith, head-length, length-drop (at + length s) out)
+
+  pub written-more : (t : List ℕ) → written (at + length s) t (written at s out) ≡ written at (s ++ t) out
+  unfolding head
+  written-more t =
+      rw written-head
+      (ap₂ (λ (xs ys : List ℕ). xs ++ (t ++ ys))
+      (take-at head (drop (at + length s) out) (at + length s) head-length) after
+      ∙ append-assoc (take at out) s (t ++ drop (at + length (s ++ t)) out)
+      ∙ ap (λ (ys : List ℕ). take at out ++ ys) (sym (append-assoc s t (drop (at + length (s ++ t)) out))))
+    where
+      after : drop (at + length s + length t) (head ++ drop (at + length s) out) ≡ drop (at + length (s ++ t)) out
+      after =
+          let e : at + length s + length t ≡ at + length (s ++ t) = omega (arith, length-append s t) in
+          sym (drop-drop (length t) (at + length s) (head ++ drop (at + length s) out))
+          ∙ ap (drop (length t)) (drop-at head (drop (at + length s) out) (at + length s) head-length)
+          ∙ drop-drop (length t) (at + length s) out
+          ∙ ap (λ (n : ℕ). drop n out) e
+
+-- ---- what is left: the whole was to be put from place `start` into `out`; now `left` is to be put from place `at`
+
+pub record Left (start : ℕ) (whole out : List ℕ) (at : ℕ) (left now : List ℕ) : Type 0 where
+  pub place : at + length left ≡ start + length whole
+  pub long : length now ≡ length out
+  pub holds : written at left now ≡ written start whole out
+
+pub left-start : (start : ℕ) (whole out : List ℕ) → Left start whole out start whole out
+left-start start whole out = record { place = refl; long = refl; holds = refl }
+
+module _ (start : ℕ) (whole out : List ℕ) (fits : start + length whole ≤ length out) (at : ℕ) (now : List ℕ) where
+  -- the next piece has room
+  pub left-room : (s rest : List ℕ) → Left start whole out at (s ++ rest) now → at + length s ≤ length now
+  left-room s rest l = omega (arith, l .place, l .long, length-append s rest)
+
+  -- it was put
+  pub left-more : (s rest now′ : List ℕ) (next : ℕ) → Left start whole out at (s ++ rest) now → Put at s now now′ next
+      → Left start whole out next rest now′
+  left-more s rest now′ next l p =
+      let room = left-room s rest l in
+      rw (p .holds, p .place) (record {
+        place = omega (arith, l .place, length-append s rest);
+        long = written-length at s now room ∙ l .long;
+        holds = written-more at s now room rest ∙ l .holds;
+      })
+
+  -- nothing is left
+  pub left-end : Left start whole out at [] now → Put start whole out now at
+  left-end l = record { holds = sym (written-none at now) ∙ l .holds; place = sym (add-zero at) ∙ l .place }
+
+-- the same with what is left in another form
+pub left-as : (start : ℕ) (whole out : List ℕ) (at : ℕ) (now left left′ : List ℕ) → left ≡ left′
+    → Left start whole out at left now → Left start whole out at left′ now
+left-as start whole out at now left left′ e l = rw e at l
+
+-- ---- one byte
+
+pub put-one : (at : ℕ) (b : ℕ) (out : List ℕ) → at < length out → Put at (b ∷ []) out (set out at b) (at + 1)
+put-one at b out h = record { holds = set-split out at b h ∙ rw add-one; place = refl }
+
+-- ---- the pieces of a row's line, of a lane, of all lanes
+
+-- what stands after each field of a row's line
+abbrev pub afterFirst : Row → List ℕ
+afterFirst r = ended (digitsOf (r .valid .last .0)) lineEnd ++ []
+
+abbrev pub afterInner : Row → List ℕ
+afterInner r = ended (digitsOf (r .valid .first .0)) comma ++ afterFirst r
+
+abbrev pub afterOuter : Row → List ℕ
+afterOuter r = ended (digitsOf (r .inner)) comma ++ afterInner r
+
+abbrev pub afterLabel : Row → List ℕ
+afterLabel r = ended (digitsOf (r .outer)) comma ++ afterOuter r
+
+abbrev pub afterLane : Row → List ℕ
+afterLane r = ended (lettersOf (r .label)) comma ++ afterLabel r
+
+pub row-fields : (lane : ℕ) (r : Row) → rowLine lane r ≡ ended (digitsOf lane) comma ++ afterLane r
+unfolding rowLine
+row-fields lane r = rw (append-nil (ended (digitsOf (r .valid .last .0)) lineEnd))
+
+-- the pieces made of each member from place k on
+module _ {A : Type 0} (f : A → List ℕ) (xs : List A) where
+  pub gather-next : (k : ℕ) (x : A) → k < length xs → getD xs k x ≡ x
+      → gather f (drop k xs) ≡ f x ++ gather f (drop (k + 1) xs)
+  gather-next k x h e = rw (add-one, drop-cons xs k x h, e)
+
+  pub gather-end : (k : ℕ) → length xs ≤ k → gather f (drop k xs) ≡ []
+  gather-end k h = rw (drop-of-length-le xs h)
+
+-- those of the numbers from i on below n
+module _ (f : ℕ → List ℕ) (n : ℕ) where
+  pub lanes-next : (i : ℕ) → i < n → gather f (upFrom i (n - i)) ≡ f i ++ gather f (upFrom (i + 1) (n - (i + 1)))
+  lanes-next i h = ap (gather f) (up-next i n h)
+
+  pub lanes-none : (i : ℕ) → n ≤ i → gather f (upFrom i (n - i)) ≡ []
+  lanes-none i h = ap (gather f) (up-end i n h)
+
+-- ---- a label's letters: the first bytes of those that were written
+
+module _ (n : ℕ) (r : Letters) (w : LettersWritten n r) where
+  pub letters-part : take (r .count) (r .bytes) ≡ lettersOf n
+  letters-part = rw (w .bytes) (take-at (lettersOf n) _ (r .count) (sym (w .count)))
+
+  pub letters-count : r .count ≤ length (r .bytes)
+  letters-count =
+      omega (
+        arith,
+        w .count,
+        ap length (w .bytes),
+        length-append (lettersOf n) (replicate (labelLength - length (lettersOf n)) 0),
+      )

@@ -1,0 +1,171 @@
+-- `report::text::put_row` meets its contract: field after field (`Left`: what is left of the line).
+-- Assumes nothing.
+use mathlib.Core.List.{List, [], _++_}
+use Prim.Native.Nat.{ℕ, _+_, _≤_}
+use lib.ListN.{length}
+use Rattle.interval.specs.Label.{lettersOf}
+use Rattle.lines.specs.Fields.{comma, digitsOf}
+use Rattle.report.specs.Text.{lineEnd, ended, rowLine}
+use Rattle.report.specs.Steps.{Put}
+use Rattle.report.proofs.Writing.{Left, left-start, left-room, left-more, left-end, left-as, row-fields}
+use Rattle.report.proofs.Writing.{afterLane, afterLabel, afterOuter, afterInner, afterFirst}
+use borrow.Author.Needs.{needs}
+use Rattle.report.proofs.text.put_row.Statement.{statement}
+use Rattle.report.proofs.text.put_row.Tie as tie
+
+-- the line with `left` still to put from place `at` on
+abbrev LineLeft : tie.Start → ℕ → List ℕ → List ℕ → Type 0
+LineLeft s at left now =
+    Left (s .args .at) (rowLine (s .args .lane) (s .args .row)) (s .args .out .now) at left now
+
+-- the next field has room; it was put
+room : (s : tie.Start) (at : ℕ) (field rest now : List ℕ) → LineLeft s at (field ++ rest) now
+    → at + length field ≤ length now
+room s at field rest now l =
+    let a = s .args in
+    left-room (a .at) (rowLine (a .lane) (a .row)) (a .out .now) (s .pre) at now field rest l
+
+more : (s : tie.Start) (at : ℕ) (field rest now now′ : List ℕ) (next : ℕ) → LineLeft s at (field ++ rest) now
+    → Put at field now now′ next → LineLeft s next rest now′
+more s at field rest now now′ next l p =
+    let a = s .args in
+    left-more (a .at) (rowLine (a .lane) (a .row)) (a .out .now) (s .pre) at now field rest now′ next l p
+
+-- the function's entry, from each call
+abbrev lane-start : tie.After-put-number → tie.Start
+lane-start c = c .before .before .before
+
+abbrev label-start : tie.After-put-label → tie.Start
+label-start c = lane-start (c .before .before .before .before)
+
+abbrev outer-start : tie.After-put-number2 → tie.Start
+outer-start c = label-start (c .before .before .before .before)
+
+abbrev inner-start : tie.After-put-number3 → tie.Start
+inner-start c = outer-start (c .before .before .before .before)
+
+abbrev first-start : tie.After-put-number4 → tie.Start
+first-start c = inner-start (c .before .before .before .before)
+
+-- before the first field, and after each but the last
+none-put : (s : tie.Start)
+    → LineLeft s (s .args .at) (ended (digitsOf (s .args .lane)) comma ++ afterLane (s .args .row)) (s .args .out .now)
+none-put s =
+    let a = s .args in
+    left-as (a .at) (rowLine (a .lane) (a .row)) (a .out .now) (a .at) (a .out .now) _ _ (row-fields (a .lane) (a .row))
+    (left-start (a .at) (rowLine (a .lane) (a .row)) (a .out .now))
+
+lane-put : (c : tie.After-put-number)
+    → LineLeft (lane-start c) (c .put-number .result) (afterLane (lane-start c .args .row)) (c .put-number .last .0)
+lane-put c =
+    let s = lane-start c in
+    let a = s .args in
+    more s (a .at) (ended (digitsOf (a .lane)) comma) (afterLane (a .row)) (a .out .now) _ _ (none-put s)
+    (c .put-number .ensures)
+
+label-put : (c : tie.After-put-label)
+    → LineLeft (label-start c) (c .put-label .result) (afterLabel (label-start c .args .row)) (c .put-label .last .0)
+label-put c =
+    let s = label-start c in
+    let a = s .args in
+    let b = c .before .before .before .before in
+    more s (b .put-number .result) (ended (lettersOf (a .row .label)) comma) (afterLabel (a .row))
+    (b .put-number .last .0) _ _ (lane-put b) (c .put-label .ensures)
+
+outer-put : (c : tie.After-put-number2)
+    → LineLeft (outer-start c) (c .put-number2 .result) (afterOuter (outer-start c .args .row))
+    (c .put-number2 .last .0)
+outer-put c =
+    let s = outer-start c in
+    let a = s .args in
+    let b = c .before .before .before .before in
+    more s (b .put-label .result) (ended (digitsOf (a .row .outer)) comma) (afterOuter (a .row))
+    (b .put-label .last .0) _ _ (label-put b) (c .put-number2 .ensures)
+
+inner-put : (c : tie.After-put-number3)
+    → LineLeft (inner-start c) (c .put-number3 .result) (afterInner (inner-start c .args .row))
+    (c .put-number3 .last .0)
+inner-put c =
+    let s = inner-start c in
+    let a = s .args in
+    let b = c .before .before .before .before in
+    more s (b .put-number2 .result) (ended (digitsOf (a .row .inner)) comma) (afterInner (a .row))
+    (b .put-number2 .last .0) _ _ (outer-put b) (c .put-number3 .ensures)
+
+first-put : (c : tie.After-put-number4)
+    → LineLeft (first-start c) (c .put-number4 .result) (afterFirst (first-start c .args .row))
+    (c .put-number4 .last .0)
+first-put c =
+    let s = first-start c in
+    let a = s .args in
+    let b = c .before .before .before .before in
+    more s (b .put-number3 .result) (ended (digitsOf (a .row .valid .first .0)) comma) (afterFirst (a .row))
+    (b .put-number3 .last .0) _ _ (inner-put b) (c .put-number4 .ensures)
+
+put-number-requires : tie.Need-put-number-requires
+put-number-requires c κs =
+    let s = c .before .before in
+    let a = s .args in
+    room s (a .at) (ended (digitsOf (a .lane)) comma) (afterLane (a .row)) (a .out .now) (none-put s)
+
+put-label-requires : tie.Need-put-label-requires
+put-label-requires c κs =
+    let b = c .before .before .before in
+    let a = lane-start b .args in
+    room (lane-start b) (b .put-number .result) (ended (lettersOf (a .row .label)) comma) (afterLabel (a .row))
+    (b .put-number .last .0) (lane-put b)
+
+put-number-requires-2 : tie.Need-put-number-requires-2
+put-number-requires-2 c κs =
+    let b = c .before .before .before in
+    let a = label-start b .args in
+    room (label-start b) (b .put-label .result) (ended (digitsOf (a .row .outer)) comma) (afterOuter (a .row))
+    (b .put-label .last .0) (label-put b)
+
+put-number-requires-3 : tie.Need-put-number-requires-3
+put-number-requires-3 c κs =
+    let b = c .before .before .before in
+    let a = outer-start b .args in
+    room (outer-start b) (b .put-number2 .result) (ended (digitsOf (a .row .inner)) comma) (afterInner (a .row))
+    (b .put-number2 .last .0) (outer-put b)
+
+put-number-requires-4 : tie.Need-put-number-requires-4
+put-number-requires-4 c κs =
+    let b = c .before .before .before in
+    let a = inner-start b .args in
+    room (inner-start b) (b .put-number3 .result) (ended (digitsOf (a .row .valid .first .0)) comma)
+    (afterFirst (a .row))
+    (b .put-number3 .last .0) (inner-put b)
+
+put-number-requires-5 : tie.Need-put-number-requires-5
+put-number-requires-5 c κs =
+    let b = c .before .before .before in
+    let a = first-start b .args in
+    room (first-start b) (b .put-number4 .result) (ended (digitsOf (a .row .valid .last .0)) lineEnd) []
+    (b .put-number4 .last .0) (first-put b)
+
+same-length : tie.Need-same-length
+same-length c = search needs
+
+returns : tie.Need-returns
+returns c =
+    let b = c .before .before .before .before .before .before in
+    let s = first-start b in
+    let a = s .args in
+    left-end (a .at) (rowLine (a .lane) (a .row)) (a .out .now) (s .pre) _ _
+    (more s (b .put-number4 .result) (ended (digitsOf (a .row .valid .last .0)) lineEnd) []
+    (b .put-number4 .last .0) _ _
+    (first-put b) (c .before .before .put-number5 .ensures))
+
+pub put-row-spec : {M : Type 1} → statement M
+put-row-spec =
+    tie.close
+    (tie.spec
+    put-number-requires
+    put-label-requires
+    put-number-requires-2
+    put-number-requires-3
+    put-number-requires-4
+    put-number-requires-5
+    same-length
+    returns)

@@ -1,0 +1,118 @@
+// The text of a report, put into a buffer piece by piece: each writer is given the place to start and answers the place
+// after what it wrote.
+ghost use Prim.Native.Nat.{_+_, _≤_};
+ghost use lib.ListN.{length};
+ghost use Rattle.interval.specs.Label.{lettersOf};
+ghost use Rattle.interval.specs.Tuple.{rowWidth};
+ghost use Rattle.part.specs.Part.{roomOf, counted};
+ghost use Rattle.lines.specs.Fields.{comma, digitsOf};
+ghost use Rattle.report.specs.Text.{ended, rowLine, laneText, lanesText, textOf};
+ghost use Rattle.report.specs.Steps.{SoundStore, Put};
+use interval::tuple::Row;
+use plan::PartitionIndex;
+use plan::Partitioning;
+
+// Puts bytes.
+fn put_bytes(out: &mut [u8], at: usize, bytes: &[u8]) -> usize
+    requires { ⌜ at + length (now bytes) ≤ length (now out) ⌝ }
+    ensures { λ r. ⌜ Put at (now (bytes .entry)) (now (out .entry)) (now (out .exit)) r ⌝ }
+{
+    let n = bytes.len();
+    let mut i: usize = 0;
+    while i < n {
+        out[at + i] = bytes[i];
+        i += 1;
+    }
+    at + n
+}
+
+// Puts a number's digits and the byte after them.
+fn put_number(out: &mut [u8], at: usize, n: u64, after: u8) -> usize
+    requires { ⌜ at + length (ended (digitsOf n) after) ≤ length (now out) ⌝ }
+    ensures { λ r. ⌜ Put at (ended (digitsOf n) after) (now (out .entry)) (now (out .exit)) r ⌝ }
+{
+    let mut digits = [0u8; 21];
+    digits[20] = after;
+    digits[19] = 48 + (n % 10) as u8;
+    let mut left = n / 10;
+    let mut i: usize = 19;
+    while left != 0 {
+        i -= 1;
+        digits[i] = 48 + (left % 10) as u8;
+        left = left / 10;
+    }
+    put_bytes(out, at, &digits[i..])
+}
+
+// Puts a label's letters and a comma.
+fn put_label(out: &mut [u8], at: usize, label: u64) -> usize
+    requires { ⌜ at + length (ended (lettersOf label) comma) ≤ length (now out) ⌝ }
+    ensures { λ r. ⌜ Put at (ended (lettersOf label) comma) (now (out .entry)) (now (out .exit)) r ⌝ }
+{
+    let letters = interval::label::letters_of(label);
+    let bytes = letters.bytes;
+    let count = letters.count as usize;
+    let next = put_bytes(out, at, &bytes[..count]);
+    put_bytes(out, next, b",")
+}
+
+// Puts a row's line.
+fn put_row(out: &mut [u8], at: usize, lane: u64, row: Row) -> usize
+    requires { ⌜ at + length (rowLine lane row) ≤ length (now out) ⌝ }
+    ensures { λ r. ⌜ Put at (rowLine lane row) (now (out .entry)) (now (out .exit)) r ⌝ }
+{
+    let label = put_number(out, at, lane, 44);
+    let drawing = put_label(out, label, row.label);
+    let spot = put_number(out, drawing, row.outer, 44);
+    let first = put_number(out, spot, row.inner, 44);
+    let last = put_number(out, first, row.valid.first.0, 44);
+    put_number(out, last, row.valid.last.0, 10)
+}
+
+// Puts the lines of a partition's rows.
+fn put_lane(out: &mut [u8], at: usize, lane: u64, part: &[u64]) -> usize
+    requires { ⌜ roomOf rowWidth (counted (now part)) ≤ length (now part) ⌝ }
+    requires { ⌜ at + length (laneText lane (now part)) ≤ length (now out) ⌝ }
+    ensures { λ r. ⌜ Put at (laneText lane (now (part .entry))) (now (out .entry)) (now (out .exit)) r ⌝ }
+{
+    let n = part::count(part) as usize;
+    let mut next = at;
+    let mut k: usize = 0;
+    while k < n {
+        next = put_row(out, next, lane, part::row_at(part, k));
+        k += 1;
+    }
+    next
+}
+
+// Puts the lines of all rows, lane by lane; lanes are counted from 1.
+fn put_lanes(p: Partitioning, rows: &[u64], out: &mut [u8], at: usize) -> usize
+    requires { ⌜ SoundStore p (now rows) ⌝ }
+    requires { ⌜ at + length (lanesText p (now rows)) ≤ length (now out) ⌝ }
+    ensures { λ r. ⌜ Put at (lanesText p (now (rows .entry))) (now (out .entry)) (now (out .exit)) r ⌝ }
+{
+    let room = partition::row_room(p);
+    let mut next = at;
+    let mut i: u64 = 0;
+    while i < p.count {
+        next = put_lane(
+            out,
+            next,
+            i + 1,
+            partition::partition(rows, room, PartitionIndex(i)),
+        );
+        i += 1;
+    }
+    next
+}
+
+// Puts the whole report at the buffer's start.
+pub(crate) fn put_report(p: Partitioning, rows: &[u64], out: &mut [u8]) -> usize
+    requires { ⌜ SoundStore p (now rows) ⌝ }
+    requires { ⌜ length (textOf p (now rows)) ≤ length (now out) ⌝ }
+    ensures { λ r. ⌜ Put 0 (textOf p (now (rows .entry))) (now (out .entry)) (now (out .exit)) r ⌝ }
+{
+    let word = put_bytes(out, 0, b"rows,");
+    let next = put_number(out, word, crate::count_rows(p, rows), 10);
+    put_lanes(p, rows, out, next)
+}

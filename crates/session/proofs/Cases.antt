@@ -1,0 +1,90 @@
+-- Closed cases that compute, from the definitions that the promises cite: the numbers of lists of lines, each line
+-- taken by the session that the one before left, on stores of 0. Lane lines rise, complete the plan, come too late; a
+-- change comes before the plan is complete; an eighth lane is not the end, and then is; a store is too short; changes.
+-- Assumes nothing.
+use mathlib.Core.List.{List, [], _∷_}
+use mathlib.Core.Path.{_≡_, refl}
+use Prim.Native.Nat.{ℕ, _*_}
+use lib.ListN.{replicate}
+use Rattle.lists.specs.Choice.{firstOf}
+use Rattle.interval.specs.Time.{span}
+use Rattle.interval.specs.Label.{labelCheck}
+use Rattle.interval.specs.Tuple.{tupleNumber, itemCheck, validCheck}
+use Rattle.plan.specs.Plan.{cutsOf, cover, planNumber, legalPlan, home, homeOf}
+use Rattle.part.specs.Part.{counted, soundPart, recordsIn, tuplesIn, rowsIn}
+use Rattle.partition.specs.Store.{fitsTuples, fitsRows, soundTuples, soundRows, soundTuplePart, soundRowPart}
+use Rattle.partition.specs.Store.{storedTuples, rowsAt}
+use Rattle.rows.specs.Join.{madeWith}
+use Rattle.join.specs.Stores.{Stores, stores, fitsAll, lengthsNumber, storeNumber, sound}
+use Rattle.join.specs.Changes.{insertNumber, deleteNumber, overfull, made}
+use Rattle.lines.specs.declared.Word.the-variants.{DrawIn, SpotOut}
+use Rattle.lines.specs.declared.Line.{Line}
+use Rattle.lines.specs.declared.Line.the-variants.{Lane, Change, Malformed}
+use Rattle.session.specs.Session.{fresh, badLane, laneCheck, laneNumber, changeNumber, stepNumber, sessionAfter}
+use Rattle.session.specs.declared.Session.{Session}
+
+-- the numbers that lines get, one after the other
+numbersOf : Stores → Session → List Line → List ℕ
+numbersOf S s [] = []
+numbersOf S s (l ∷ ls) = stepNumber s l S ∷ numbersOf S (sessionAfter s l S) ls
+
+abbrev lane : ℕ → Line
+lane m = Lane (record { 0 = m })
+
+abbrev drawn : ℕ → ℕ → ℕ → Line
+drawn item a b = Change DrawIn (record { label = 38; item = item; valid = span a b })
+
+abbrev draw : Line
+draw = drawn 10 30 31
+
+abbrev unspot : Line
+unspot = Change SpotOut (record { label = 38; item = 1; valid = span 30 35 })
+
+-- stores of n lanes
+abbrev blankOf : ℕ → Stores
+blankOf n = stores (replicate (n * 129) 0) (replicate (n * 129) 0) (replicate (n * 321) 0)
+
+-- document 01's lanes, with a change before them, a lane line twice, a change among them, and lane lines after them
+abbrev three : List Line
+three =
+    draw
+    ∷ (lane 34
+    ∷ (lane 40
+    ∷ (lane 40 ∷ (unspot ∷ (lane 99999999 ∷ (lane 41 ∷ (lane 99999999 ∷ (Malformed ∷ []))))))))
+
+-- seven lanes, an eighth that is not the end, and the end
+abbrev eight : List Line
+eight =
+    lane 0
+    ∷ (lane 10
+    ∷ (lane 20 ∷ (lane 30 ∷ (lane 40 ∷ (lane 50 ∷ (lane 60 ∷ (lane 500 ∷ (lane 99999999 ∷ (lane 99999999 ∷ [])))))))))
+
+-- stores of one lane under a plan of two: a direct caller's 4, and the lane is not counted
+abbrev short : List Line
+short = lane 34 ∷ (lane 99999999 ∷ (draw ∷ []))
+
+Cases : List (Stores × List Line × List ℕ) → Type 0
+Cases [] = Unit {0}
+Cases (c ∷ cs) = (numbersOf (c .0) fresh (c .1) ≡ c .2) × Cases cs
+
+lanes : List (Stores × List Line × List ℕ)
+lanes =
+    (blankOf 8, three, 16 ∷ (0 ∷ (0 ∷ (2 ∷ (16 ∷ (0 ∷ (16 ∷ (16 ∷ (15 ∷ [])))))))))
+    ∷ ((blankOf 8, eight, 0 ∷ (0 ∷ (0 ∷ (0 ∷ (0 ∷ (0 ∷ (0 ∷ (2 ∷ (0 ∷ (16 ∷ []))))))))))
+    ∷ ((blankOf 1, short, 0 ∷ (4 ∷ (16 ∷ [])))
+    ∷ []))
+
+lanes-hold : Cases lanes
+unfolding lanes Cases numbersOf badLane laneCheck laneNumber changeNumber sessionAfter firstOf cutsOf cover planNumber legalPlan fitsTuples fitsRows fitsAll lengthsNumber
+lanes-hold = (refl, (refl, (refl, tt)))
+
+-- changes on an empty wall: an insert, a delete, an item number above 999,999, a span that ends before it starts
+abbrev some : List Line
+some = lane 99999999 ∷ (draw ∷ (unspot ∷ (drawn 1000000 30 31 ∷ (drawn 10 31 30 ∷ []))))
+
+changes : List (Stores × List Line × List ℕ)
+changes = (blankOf 1, some, 0 ∷ (0 ∷ (11 ∷ (7 ∷ (8 ∷ []))))) ∷ []
+
+changes-hold : Cases changes
+unfolding changes Cases numbersOf badLane laneCheck laneNumber changeNumber sessionAfter firstOf cutsOf cover planNumber legalPlan home homeOf fitsTuples fitsRows fitsAll lengthsNumber counted recordsIn tuplesIn rowsIn soundPart soundTuplePart soundRowPart soundTuples soundRows sound storeNumber labelCheck itemCheck validCheck tupleNumber insertNumber deleteNumber overfull made madeWith storedTuples rowsAt
+changes-hold = (refl, tt)

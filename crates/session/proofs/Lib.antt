@@ -1,0 +1,11 @@
+-- The laws of this crate: lane lines, the words in use, a step's answer. Then those for a reader: the sessions that
+-- steps reach and their plans, the stores' lengths, the numbers that such sessions meet, a store that is too short; and
+-- closed cases.
+pub mod Lanes
+pub mod Walls
+pub mod Steps
+pub mod Reached
+pub mod Lengths
+pub mod Numbers
+pub mod Short
+pub mod Cases

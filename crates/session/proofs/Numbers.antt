@@ -1,0 +1,290 @@
+-- The numbers that a session from `fresh` can meet, where the lent stores have the words of 8 lanes (1,032, 1,032 and
+-- 2,568) and each line was read by the reader: 1, 3, 4, 6, 13 and 14 are never given.
+-- In order: the wall fits the plan, so checks 1 to 4 pass; the first check that applies, among given numbers; a lane
+-- line, a change, a line; the theorem (`numbers-met`). It leaves 5, which a sound wall never gets (`change-sound`), and
+-- 12, which needs store 3 to lack a row: that a session's own steps keep its wall sound and its rows right follows from
+-- demand 3, of the calls, and is not shown here.
+-- Assumes nothing.
+use mathlib.Core.Bool.{Bool, true, false, not, _&&_, _||_, false≢true}
+use mathlib.Core.List.{List, [], _∷_}
+use mathlib.Core.Logic.{⊎-elim}
+use mathlib.Core.Path.{_≡_, refl, _∙_, ap}
+use Prim.Native.Nat.{ℕ, zero, suc, _*_, _≤_}
+use native.Mathlib.Omega.{arith}
+use lib.Dec.{ltb, eqb}
+use lib.ListN.{length, length-take}
+use borrow.Author.Tests.{eq-eqb, eqb-true}
+use Rattle.lists.specs.Choice.{pick, refuseIf, firstOf}
+use Rattle.lists.specs.Members.{all, any}
+use Rattle.lists.proofs.Choice.{bool-cases, and-left, and-right, and-both, or-right, first-here, pick-true, pick-false}
+use Rattle.interval.specs.Time.{calendarEnd}
+use Rattle.interval.specs.Label.{labelCheck}
+use Rattle.interval.specs.Tuple.{itemEnd, tupleNumber, itemCheck, validCheck, sameTuple}
+use Rattle.interval.specs.declared.time.Chronon.{Chronon}
+use Rattle.interval.specs.declared.time.Interval.{Interval}
+use Rattle.interval.specs.declared.tuple.Tuple.{Tuple}
+use Rattle.plan.specs.Plan.{legalPlan, planNumber}
+use Rattle.plan.specs.declared.Partitioning.{Partitioning}
+use Rattle.plan.proofs.Homes.{plan-legal-test}
+use Rattle.partition.specs.Store.{tupleRoom, rowRoom, fitsTuples, fitsRows, storedTuples, storedRows}
+use Rattle.rows.specs.declared.Side.{Side}
+use Rattle.rows.specs.declared.Side.the-variants.{Outer, Inner}
+use Rattle.join.specs.Stores.{Stores, fitsAll, sound, lengthsNumber, openNumber, storeNumber}
+use Rattle.join.specs.Changes.{ownStore, otherStore, made, full, overfull, insertNumber, lacks, deleteNumber}
+use Rattle.lines.specs.Line.{lineOf}
+use Rattle.lines.specs.declared.Word.{Word}
+use Rattle.lines.specs.declared.Word.the-variants.{DrawIn, DrawOut, SpotIn, SpotOut}
+use Rattle.lines.specs.declared.Line.{Line}
+use Rattle.lines.specs.declared.Line.the-variants.{Lane, Change, Malformed}
+use Rattle.lines.proofs.Printed.{line-change-bounds}
+use Rattle.session.specs.Session.{planOf, withLane, usedTuples, usedRows, wallOf, badLane, laneCheck, laneNumber}
+use Rattle.session.specs.Session.{callNumber, changeNumber, stepNumber}
+use Rattle.session.specs.declared.Session.{Session}
+use Rattle.session.proofs.Lanes.{lane-passed}
+use Rattle.session.proofs.Reached.{Reached, Good, good-with, reached-good, plan-legal}
+use Rattle.session.proofs.Lengths.{SameLong, reached-long}
+
+-- lent stores that have the words of 8 lanes
+pub record Roomy (S : Stores) : Type 0 where
+  pub outer : 8 * 129 ≤ length (S .outer)
+  pub inner : 8 * 129 ≤ length (S .inner)
+  pub rows : 8 * 321 ≤ length (S .rows)
+
+-- ---- the wall of a complete plan has the lengths that the plan gives: checks 1 to 4 pass
+
+fits-tuples : (p : Partitioning) (n : ℕ) → planNumber p ≡ 0 → n ≡ p .count * tupleRoom p → fitsTuples p n ≡ true
+unfolding fitsTuples
+fits-tuples p n l e =
+    and-both (legalPlan p) (eqb n (p .count * tupleRoom p)) (plan-legal-test p l) (eq-eqb n (p .count * tupleRoom p) e)
+
+fits-rows : (p : Partitioning) (n : ℕ) → planNumber p ≡ 0 → n ≡ p .count * rowRoom p → fitsRows p n ≡ true
+unfolding fitsRows
+fits-rows p n l e =
+    and-both (legalPlan p) (eqb n (p .count * rowRoom p)) (plan-legal-test p l) (eq-eqb n (p .count * rowRoom p) e)
+
+module _ (s : Session) (S : Stores) (g : Good s) (done : s .complete ≡ true) (y : Roomy S) where
+  abbrev wall : Stores
+  wall = wallOf s S
+
+  outer-fits : fitsTuples (planOf s) (length (wall .outer)) ≡ true
+  outer-fits =
+      fits-tuples (planOf s) (length (wall .outer)) (plan-legal s g done)
+      (omega (arith, length-take (usedTuples s) (S .outer), g .most, y .outer))
+
+  inner-fits : fitsTuples (planOf s) (length (wall .inner)) ≡ true
+  inner-fits =
+      fits-tuples (planOf s) (length (wall .inner)) (plan-legal s g done)
+      (omega (arith, length-take (usedTuples s) (S .inner), g .most, y .inner))
+
+  rows-fit : fitsRows (planOf s) (length (wall .rows)) ≡ true
+  rows-fit =
+      fits-rows (planOf s) (length (wall .rows)) (plan-legal s g done)
+      (omega (arith, length-take (usedRows s) (S .rows), g .most, y .rows))
+
+  pub wall-open : openNumber (planOf s) wall ≡ 0
+  unfolding lengthsNumber fitsAll firstOf
+  wall-open = rw (plan-legal s g done, outer-fits, inner-fits, rows-fit)
+
+-- ---- the first check that applies, among numbers that pass a test
+
+pub first-met : (ok : ℕ → Bool) (ns : List ℕ) → ok 0 ≡ true → all ok ns ≡ true → ok (firstOf ns) ≡ true
+unfolding firstOf
+first-met ok [] z h = z
+first-met ok (zero ∷ ns) z h = first-met ok ns z (and-right (ok 0) (all ok ns) h)
+first-met ok (suc n ∷ ns) z h = and-left (ok (suc n)) (all ok ns) h
+
+pub refuse-ok : (ok : ℕ → Bool) (b : Bool) (n : ℕ) → ok 0 ≡ true → ok n ≡ true → ok (refuseIf b n) ≡ true
+refuse-ok ok true n z h = h
+refuse-ok ok false n z h = z
+
+-- a number that a test guards
+guarded-ok : (ok : ℕ → Bool) (c : Bool) (k n : ℕ) → ok 0 ≡ true → ok (suc k) ≡ true → (c ≡ true → ok n ≡ true)
+    → ok (firstOf (refuseIf (not c) (suc k) ∷ (n ∷ []))) ≡ true
+guarded-ok ok true k n z h f =
+    first-met ok (0 ∷ (n ∷ [])) z (and-both (ok 0) (ok n && true) z (and-both (ok n) true (f refl) refl))
+guarded-ok ok false k n z h f = ap ok (first-here (suc k) (n ∷ []) (λ e. omega arith)) ∙ h
+
+-- the first of two, where the second is 0 if the first is
+first-only : (m n : ℕ) → (m ≡ 0 → n ≡ 0) → firstOf (m ∷ (n ∷ [])) ≡ m
+unfolding firstOf
+first-only zero n h = rw (h refl)
+first-only (suc m) n h = refl
+
+-- the numbers of a list
+abbrev pub among : List ℕ → ℕ → Bool
+among ns n = any (eqb n) ns
+
+-- a number of xs is one of ys, where all of xs are
+pub among-more : (xs ys : List ℕ) → all (among ys) xs ≡ true → (n : ℕ) → among xs n ≡ true → among ys n ≡ true
+among-more [] ys h n e = absurd (false≢true e)
+among-more (x ∷ xs) ys h n e =
+    ⊎-elim (λ q. rw (eqb-true n x q) (and-left (among ys x) (all (among ys) xs) h))
+    (λ q. among-more xs ys (and-right (among ys x) (all (among ys) xs) h) n (rw q at e))
+    (bool-cases (eqb n x))
+
+-- those that a lane line may get, and a change on a sound wall
+abbrev pub laneNumbers : List ℕ
+laneNumbers = 0 ∷ (2 ∷ (16 ∷ []))
+
+abbrev pub changeNumbers : List ℕ
+changeNumbers = 0 ∷ (7 ∷ (8 ∷ (9 ∷ (10 ∷ (11 ∷ (12 ∷ (16 ∷ [])))))))
+
+-- ---- a lane line
+
+module _ (s : Session) (m : Chronon) (S : Stores) (g : Good s) (y : Roomy S) where
+  -- its own checks
+  check-met : among laneNumbers (laneCheck s (m .0)) ≡ true
+  unfolding laneCheck
+  check-met =
+      first-met (among laneNumbers) _ refl
+      (and-both _ _ (refuse-ok (among laneNumbers) (s .complete) 16 refl refl)
+      (and-both _ _ (refuse-ok (among laneNumbers) (badLane s (m .0)) 2 refl refl) refl))
+
+  -- past them the wall is opened where the plan is complete
+  opening : ℕ
+  opening = pick (eqb (m .0) calendarEnd) (openNumber (planOf (withLane s m)) (wallOf (withLane s m) S)) 0
+
+  opens : laneCheck s (m .0) ≡ 0 → opening ≡ 0
+  unfolding opening
+  opens z = ⊎-elim last between (bool-cases (eqb (m .0) calendarEnd))
+    where
+      last : eqb (m .0) calendarEnd ≡ true → opening ≡ 0
+      last e =
+          let p = lane-passed s (m .0) z in
+          pick-true (eqb (m .0) calendarEnd) _ 0 e
+          ∙ wall-open (withLane s m) S (good-with s m g (p .1) (p .0)) e y
+
+      between : eqb (m .0) calendarEnd ≡ false → opening ≡ 0
+      between e = pick-false (eqb (m .0) calendarEnd) _ 0 e
+
+  -- so a lane line gets the number of its own checks
+  pub lane-number-is : laneNumber s m S ≡ laneCheck s (m .0)
+  unfolding laneNumber opening
+  lane-number-is = first-only (laneCheck s (m .0)) opening opens
+
+  pub lane-met : among laneNumbers (laneNumber s m S) ≡ true
+  lane-met = rw lane-number-is check-met
+
+-- ---- a change whose label is legal
+
+module _ (ok : ℕ → Bool) (more : (n : ℕ) → among changeNumbers n ≡ true → ok n ≡ true) where
+  -- checks 7 and 8
+  item-met : (n : ℕ) → ok (itemCheck n) ≡ true
+  unfolding itemCheck
+  item-met n = refuse-ok ok (ltb itemEnd n) 7 (more 0 refl) (more 7 refl)
+
+  valid-met : (v : Interval) → ok (validCheck v) ≡ true
+  unfolding validCheck
+  valid-met v =
+      refuse-ok ok (ltb (v .last .0) (v .first .0) || ltb calendarEnd (v .last .0)) 8 (more 0 refl) (more 8 refl)
+
+  tuple-met : (t : Tuple) → labelCheck (t .label) ≡ 0 → ok (tupleNumber t) ≡ true
+  unfolding tupleNumber
+  tuple-met t l =
+      first-met ok _ (more 0 refl)
+      (and-both _ _ (ap ok l ∙ more 0 refl)
+      (and-both _ _ (item-met (t .item)) (and-both _ _ (valid-met (t .valid)) refl)))
+
+  -- a call, where checks 1 to 5 give such a number
+  module _ (p : Partitioning) (t : Tuple) (S : Stores) (l : labelCheck (t .label) ≡ 0)
+      (e : ok (storeNumber p S) ≡ true) where
+    two-met : (b c : Bool) (i j : ℕ) → ok i ≡ true → ok j ≡ true
+        → ok (firstOf (storeNumber p S ∷ (tupleNumber t ∷ (refuseIf b i ∷ (refuseIf c j ∷ []))))) ≡ true
+    two-met b c i j h k =
+        first-met ok _ (more 0 refl)
+        (and-both _ _ e
+        (and-both _ _ (tuple-met t l)
+        (and-both _ _ (refuse-ok ok b i (more 0 refl) h) (and-both _ _ (refuse-ok ok c j (more 0 refl) k) refl))))
+
+    insert-met : (side : Side) → ok (insertNumber p side t S) ≡ true
+    unfolding insertNumber
+    insert-met side =
+        two-met (full p t (ownStore side S)) (overfull p (S .rows) (made p side t (otherStore side S))) 9 10
+        (more 9 refl) (more 10 refl)
+
+    delete-met : (side : Side) → ok (deleteNumber p side t S) ≡ true
+    unfolding deleteNumber
+    delete-met side =
+        two-met (not (any (sameTuple t) (storedTuples p (ownStore side S))))
+        (lacks (storedRows p (S .rows)) (made p side t (otherStore side S))) 11 12
+        (more 11 refl) (more 12 refl)
+
+    call-met : (w : Word) → ok (callNumber w p t S) ≡ true
+    call-met DrawIn = insert-met Outer
+    call-met DrawOut = delete-met Outer
+    call-met SpotIn = insert-met Inner
+    call-met SpotOut = delete-met Inner
+
+  -- a change, where checks 1 to 5 of a complete plan do
+  change-by : (s : Session) (w : Word) (t : Tuple) (S : Stores) → labelCheck (t .label) ≡ 0
+      → (s .complete ≡ true → ok (storeNumber (planOf s) (wallOf s S)) ≡ true) → ok (changeNumber s w t S) ≡ true
+  unfolding changeNumber
+  change-by s w t S l e =
+      guarded-ok ok (s .complete) 15 (callNumber w (planOf s) t (wallOf s S)) (more 0 refl) (more 16 refl)
+      (λ c. call-met (planOf s) t (wallOf s S) l (e c) w)
+
+module _ (s : Session) (w : Word) (t : Tuple) (S : Stores) (g : Good s) (y : Roomy S)
+    (l : labelCheck (t .label) ≡ 0) where
+  -- on any wall: 5 too
+  pub change-met : among (5 ∷ changeNumbers) (changeNumber s w t S) ≡ true
+  unfolding storeNumber
+  change-met =
+      change-by (among (5 ∷ changeNumbers)) (λ n h. or-right (eqb n 5) (among changeNumbers n) h) s w t S l
+      (λ c.
+      first-met (among (5 ∷ changeNumbers)) _ refl
+      (and-both _ _ (ap (among (5 ∷ changeNumbers)) (wall-open s S g c y))
+      (and-both _ _ (refuse-ok (among (5 ∷ changeNumbers)) (not (sound (planOf s) (wallOf s S))) 5 refl refl) refl)))
+
+  -- on a sound wall
+  pub change-sound : (s .complete ≡ true → sound (planOf s) (wallOf s S) ≡ true)
+      → among changeNumbers (changeNumber s w t S) ≡ true
+  unfolding storeNumber firstOf
+  change-sound h =
+      change-by (among changeNumbers) (λ n q. q) s w t S l
+      (λ c. ap (among changeNumbers) (sound-number c))
+    where
+      sound-number : s .complete ≡ true → storeNumber (planOf s) (wallOf s S) ≡ 0
+      sound-number c = rw (wall-open s S g c y, h c)
+
+-- ---- a line
+
+-- "The program can meet 2, 7 to 11, 15 and 16"; 5 and 12 only with a store that others wrote in
+abbrev pub stepNumbers : List ℕ
+stepNumbers = 0 ∷ (2 ∷ (5 ∷ (7 ∷ (8 ∷ (9 ∷ (10 ∷ (11 ∷ (12 ∷ (15 ∷ (16 ∷ []))))))))))
+
+-- the reader gives legal labels
+abbrev pub Labelled : Line → Type 0
+Labelled (Lane m) = Unit {0}
+Labelled (Change w t) = labelCheck (t .label) ≡ 0
+Labelled Malformed = Unit {0}
+
+pub step-met : (s : Session) (line : Line) (S : Stores) → Good s → Roomy S → Labelled line
+    → among stepNumbers (stepNumber s line S) ≡ true
+step-met s (Lane m) S g y l = among-more laneNumbers stepNumbers refl (laneNumber s m S) (lane-met s m S g y)
+step-met s (Change w t) S g y l =
+    among-more (5 ∷ changeNumbers) stepNumbers refl (changeNumber s w t S) (change-met s w t S g y l)
+step-met s Malformed S g y l = refl
+
+-- ---- every line that a session from `fresh` reads
+
+-- stores as long as roomy ones
+roomy-as : (S S′ : Stores) → SameLong S S′ → Roomy S → Roomy S′
+roomy-as S S′ l y = record {
+  outer = omega (arith, l .outer, y .outer);
+  inner = omega (arith, l .inner, y .inner);
+  rows = omega (arith, l .rows, y .rows);
+}
+
+-- the lines that the reader gives
+labelled-by : (line : Line) → ((w : Word) (t : Tuple) → line ≡ Change w t → labelCheck (t .label) ≡ 0) → Labelled line
+labelled-by (Lane m) h = tt
+labelled-by (Change w t) h = h w t refl
+labelled-by Malformed h = tt
+
+pub labelled : (bs : List ℕ) → Labelled (lineOf bs)
+labelled bs = labelled-by (lineOf bs) (λ w t e. line-change-bounds bs w t e .label)
+
+pub numbers-met : {S₀ : Stores} {s : Session} {S : Stores} → Roomy S₀ → Reached S₀ s S → (bs : List ℕ)
+    → among stepNumbers (stepNumber s (lineOf bs) S) ≡ true
+numbers-met {S₀ = S₀} {s = s} {S = S} y x bs =
+    step-met s (lineOf bs) S (reached-good x) (roomy-as S₀ S (reached-long x) y) (labelled bs)

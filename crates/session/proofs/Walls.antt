@@ -1,0 +1,171 @@
+-- The words in use, lent to a call and put back: the lent words are the wall, what the call left is the wall after it,
+-- and the words beyond are as they were. Then what `open_wall` and `change_on` answer and leave.
+-- Assumes nothing.
+use mathlib.Core.Bool.{true, false, not}
+use mathlib.Core.List.{List, _++_, append-nil}
+use mathlib.Core.Logic.{⊎-elim}
+use mathlib.Core.Path.{_≡_, refl, sym, _∙_, ap, subst}
+use Prim.Native.Nat.{ℕ, _≤_, _<_, min}
+use native.Mathlib.Omega.{arith}
+use lib.ListN.{length, take, drop, length-take, take-append-drop, drop-of-length-le}
+use lib.Seq.{take-all, take-at, drop-at}
+use Rattle.lists.specs.Choice.{firstOf}
+use Rattle.lists.proofs.Choice.{refuse-passed, answer-next, answer-last}
+use Rattle.interval.specs.declared.tuple.Tuple.{Tuple}
+use Rattle.plan.specs.declared.Partitioning.{Partitioning}
+use Rattle.plan.proofs.Homes.{le-or-lt}
+use Rattle.join.specs.Stores.{Stores, stores, Opened}
+use Rattle.join.specs.declared.Answer.{Answer}
+use Rattle.lines.specs.declared.Word.{Word}
+use Rattle.lines.specs.declared.Word.the-variants.{DrawIn, DrawOut, SpotIn, SpotOut}
+use Rattle.session.specs.Session.{planOf, usedTuples, usedRows, wallOf, restOf, callNumber, Called, changeNumber}
+use Rattle.session.specs.Session.{WallOpening, WallChanging}
+use Rattle.session.specs.declared.Session.{Session}
+
+-- ---- one store: n words are in use, or all where there are fewer; a of them are lent
+
+module _ (n a : ℕ) (ws : List ℕ) (e : a ≡ min n (length ws)) where
+  pub lent-long : a ≡ length (take a ws)
+  lent-long = omega (arith, length-take a ws)
+
+  pub lent-used : take a ws ≡ take n ws
+  lent-used = ⊎-elim enough short (le-or-lt n (length ws))
+    where
+      enough : n ≤ length ws → take a ws ≡ take n ws
+      enough h = let same : a ≡ n = omega arith in rw same
+
+      short : length ws < n → take a ws ≡ take n ws
+      short h = take-all a ws (omega arith) ∙ sym (take-all n ws (omega arith))
+
+  -- ys comes back in their place
+  module _ (ys : List ℕ) (l : length ys ≡ length (take a ws)) where
+    long : length ys ≡ a
+    long = l ∙ sym lent-long
+
+    pub back-used : take n (ys ++ drop a ws) ≡ ys
+    back-used = ⊎-elim enough short (le-or-lt n (length ws))
+      where
+        enough : n ≤ length ws → take n (ys ++ drop a ws) ≡ ys
+        enough h = take-at ys (drop a ws) n (omega (arith, long))
+
+        short : length ws < n → take n (ys ++ drop a ws) ≡ ys
+        short h =
+            rw (drop-of-length-le ws {i = a} (omega arith), append-nil ys) (take-all n ys (omega (arith, long)))
+
+    pub back-left : drop n (ys ++ drop a ws) ≡ drop n ws
+    back-left = ⊎-elim enough short (le-or-lt n (length ws))
+      where
+        enough : n ≤ length ws → drop n (ys ++ drop a ws) ≡ drop n ws
+        enough h = let same : a ≡ n = omega arith in drop-at ys (drop a ws) n (omega (arith, long)) ∙ rw same
+
+        short : length ws < n → drop n (ys ++ drop a ws) ≡ drop n ws
+        short h =
+            rw (drop-of-length-le ws {i = a} (omega arith), append-nil ys)
+            (drop-of-length-le ys {i = n} (omega (arith, long)) ∙ sym (drop-of-length-le ws {i = n} (omega arith)))
+
+-- put back as they were
+pub back-same : (a : ℕ) (ws ys : List ℕ) → ys ≡ take a ws → ys ++ drop a ws ≡ ws
+back-same a ws ys e = rw e (take-append-drop a ws)
+
+-- ---- a call's number, and that a refused one keeps the stores
+
+pub called-number : (w : Word) (p : Partitioning) (t : Tuple) (S S′ : Stores) (a : Answer) → Called w p t S S′ a
+    → a .number ≡ callNumber w p t S
+called-number DrawIn p t S S′ a h = h .number
+called-number DrawOut p t S S′ a h = h .number
+called-number SpotIn p t S S′ a h = h .number
+called-number SpotOut p t S S′ a h = h .number
+
+pub called-refused : (w : Word) (p : Partitioning) (t : Tuple) (S S′ : Stores) (a : Answer) → Called w p t S S′ a
+    → (a .number ≡ 0 → ⊥) → S′ ≡ S
+called-refused DrawIn p t S S′ a h ne = h .refused ne .kept
+called-refused DrawOut p t S S′ a h ne = h .refused ne .kept
+called-refused SpotIn p t S S′ a h ne = h .refused ne .kept
+called-refused SpotOut p t S S′ a h ne = h .refused ne .kept
+
+-- the call of an equal word
+pub called-as : (w v : Word) (p : Partitioning) (t : Tuple) (S S′ : Stores) (a : Answer) → w ≡ v → Called v p t S S′ a
+    → Called w p t S S′ a
+called-as w v p t S S′ a e h = subst (λ (u : Word). Called u p t S S′ a) (sym e) h
+
+-- ---- the three stores
+
+module _ (s : Session) (a b c : ℕ) (o i r : List ℕ) (x : a ≡ min (usedTuples s) (length o))
+    (y : b ≡ min (usedTuples s) (length i)) (z : c ≡ min (usedRows s) (length r)) where
+  abbrev lent : Stores
+  lent = stores (take a o) (take b i) (take c r)
+
+  lent-wall : lent ≡ wallOf s (stores o i r)
+  lent-wall =
+      let lo = lent-used (usedTuples s) a o x in
+      let li = lent-used (usedTuples s) b i y in
+      let lr = lent-used (usedRows s) c r z in
+      λ k. stores (lo k) (li k) (lr k)
+
+  module _ (o′ i′ r′ : List ℕ) (lo : length o′ ≡ length (take a o)) (li : length i′ ≡ length (take b i))
+      (lr : length r′ ≡ length (take c r)) where
+    abbrev after : Stores
+    after = stores (o′ ++ drop a o) (i′ ++ drop b i) (r′ ++ drop c r)
+
+    after-wall : stores o′ i′ r′ ≡ wallOf s after
+    after-wall =
+        let bo = back-used (usedTuples s) a o x o′ lo in
+        let bi = back-used (usedTuples s) b i y i′ li in
+        let br = back-used (usedRows s) c r z r′ lr in
+        sym (λ k. stores (bo k) (bi k) (br k))
+
+    after-rest : restOf s after ≡ restOf s (stores o i r)
+    after-rest =
+        let bo = back-left (usedTuples s) a o x o′ lo in
+        let bi = back-left (usedTuples s) b i y i′ li in
+        let br = back-left (usedRows s) c r z r′ lr in
+        λ k. stores (bo k) (bi k) (br k)
+
+    after-kept : stores o′ i′ r′ ≡ lent → after ≡ stores o i r
+    after-kept e =
+        let bo = back-same a o o′ (ap (λ (w : Stores). w .outer) e) in
+        let bi = back-same b i i′ (ap (λ (w : Stores). w .inner) e) in
+        let br = back-same c r r′ (ap (λ (w : Stores). w .rows) e) in
+        λ k. stores (bo k) (bi k) (br k)
+
+    -- ---- open
+
+    pub wall-opening : (p : Partitioning) (t : Answer) → p ≡ planOf s → Opened p lent (stores o′ i′ r′) t
+        → WallOpening s (stores o i r) after (t .number)
+    wall-opening p t e h =
+        let g : Opened (planOf s) (wallOf s (stores o i r)) (wallOf s after) t =
+        subst (λ (w : Stores). Opened (planOf s) w (wallOf s after) t) lent-wall
+        (subst (λ (w : Stores). Opened (planOf s) lent w t) after-wall
+        (subst (λ (q : Partitioning). Opened q lent (stores o′ i′ r′) t) e h)) in
+        record {
+          number = g .number;
+          refused = λ ne. after-kept (h .refused ne);
+          accepted = λ q. record { wall = g .accepted q; rest = after-rest };
+        }
+
+    -- ---- a change
+
+    pub wall-changing : (w : Word) (p : Partitioning) (t : Tuple) (n : Answer) → s .complete ≡ true → p ≡ planOf s
+        → Called w p t lent (stores o′ i′ r′) n → WallChanging s w t (stores o i r) after (n .number)
+    unfolding changeNumber
+    wall-changing w p t n d e h =
+        let g : Called w (planOf s) t (wallOf s (stores o i r)) (wallOf s after) n =
+        subst (λ (v : Stores). Called w (planOf s) t v (wallOf s after) n) lent-wall
+        (subst (λ (v : Stores). Called w (planOf s) t lent v n) after-wall
+        (subst (λ (q : Partitioning). Called w q t lent (stores o′ i′ r′) n) e h)) in
+        record {
+          number =
+              answer-next _ (sym (refuse-passed (not (s .complete)) 16 (rw d))) refl
+              (answer-last (called-number w (planOf s) t (wallOf s (stores o i r)) (wallOf s after) n g));
+          refused = λ ne. after-kept (called-refused w p t lent (stores o′ i′ r′) n h ne);
+          accepted = λ q. record { answer = n; number = q; wall = g; rest = after-rest };
+        }
+
+-- a change before the plan is complete
+pub change-early : (s : Session) (w : Word) (t : Tuple) (S : Stores) → s .complete ≡ false → WallChanging s w t S S 16
+unfolding changeNumber firstOf
+change-early s w t S e = record {
+  number = rw e;
+  refused = λ ne. refl;
+  accepted = λ q. absurd (omega arith);
+}

@@ -1,0 +1,180 @@
+-- The program's work on one line (document 01, "Lines and the program"): the session, the words of the lent stores that
+-- it uses, the number that a line gets, and what a line leaves.
+-- The laws are in proofs/: Reached (the sessions that steps reach, their plans), Numbers (the numbers that they meet).
+use mathlib.Core.Bool.{Bool, false, not, _&&_, _||_}
+use mathlib.Core.List.{[], _∷_}
+use mathlib.Core.Path.{_≡_}
+use Prim.Native.Nat.{ℕ, _+_, _-_, _*_, min}
+use lib.Dec.{leb, ltb, eqb}
+use lib.ListN.{getD, take, drop, set, replicate}
+use Rattle.lists.specs.Choice.{pick, refuseIf, firstOf}
+use Rattle.interval.specs.Time.{calendarEnd}
+use Rattle.interval.specs.declared.time.Chronon.{Chronon}
+use Rattle.interval.specs.declared.tuple.Tuple.{Tuple}
+use Rattle.plan.specs.Plan.{numbers}
+use Rattle.plan.specs.declared.Partitioning.{Partitioning}
+use Rattle.partition.specs.Store.{tupleRoom, rowRoom}
+use Rattle.rows.specs.declared.Side.the-variants.{Outer, Inner}
+use Rattle.join.specs.Stores.{Stores, stores, openNumber, blank}
+use Rattle.join.specs.Changes.{insertNumber, Inserted, deleteNumber, Deleted}
+use Rattle.join.specs.declared.Answer.{Answer}
+use Rattle.lines.specs.declared.Word.{Word}
+use Rattle.lines.specs.declared.Word.the-variants.{DrawIn, DrawOut, SpotIn, SpotOut}
+use Rattle.lines.specs.declared.Line.{Line}
+use Rattle.lines.specs.declared.Line.the-variants.{Lane, Change, Malformed}
+use Rattle.session.specs.declared.Session.{Session}
+use Rattle.session.specs.declared.Stepped.{Stepped}
+
+-- ---- the session
+
+-- "The program `wall` reads standard input with up to 8 lanes, 32 tuples and 64 rows a lane."
+abbrev pub lanesMost : ℕ
+lanesMost = 8
+
+abbrev pub laneTuples : ℕ
+laneTuples = 32
+
+abbrev pub laneRows : ℕ
+laneRows = 64
+
+-- before the first line: no lane, and 0 in every place
+abbrev pub fresh : Session
+fresh = record { lanes = 0; lasts = replicate 64 (record { 0 = 0 }); complete = false }
+
+-- the plan that the lanes taken so far make
+abbrev pub planOf : Session → Partitioning
+planOf s = record { count = s .lanes; lasts = s .lasts; tuples = laneTuples; rows = laneRows }
+
+-- the session with one lane more; "the line with 99999999 completes the plan"
+abbrev pub withLane : Session → Chronon → Session
+withLane s m = record {
+  lanes = s .lanes + 1;
+  lasts = set (s .lasts) (s .lanes) m;
+  complete = eqb (m .0) calendarEnd;
+}
+
+-- ---- the words in use: the first of each lent store, as many as the plan's lanes need, or all where there are fewer
+
+abbrev pub usedLanes : Session → ℕ
+usedLanes s = min (s .lanes) lanesMost
+
+-- 129 words a lane, and 321
+abbrev pub usedTuples : Session → ℕ
+usedTuples s = usedLanes s * tupleRoom (planOf s)
+
+abbrev pub usedRows : Session → ℕ
+usedRows s = usedLanes s * rowRoom (planOf s)
+
+-- the wall: the words in use
+abbrev pub wallOf : Session → Stores → Stores
+wallOf s S =
+    stores (take (usedTuples s) (S .outer)) (take (usedTuples s) (S .inner)) (take (usedRows s) (S .rows))
+
+-- the words beyond them
+abbrev pub restOf : Session → Stores → Stores
+restOf s S =
+    stores (drop (usedTuples s) (S .outer)) (drop (usedTuples s) (S .inner)) (drop (usedRows s) (S .rows))
+
+-- ---- a lane line
+
+-- the last minute of the lane line before
+abbrev pub lastCut : Session → ℕ
+lastCut s = getD (numbers (s .lasts)) (s .lanes - 1) 0
+
+-- "A lane line that isn't above the one before, or an eighth that isn't 99999999, gives 2 and is not counted". So does
+-- a ninth, which cannot come up in a session that began with `fresh`: there the eighth completes the plan.
+unfoldable pub badLane : Session → ℕ → Bool
+badLane s m =
+    (ltb 0 (s .lanes) && leb m (lastCut s))
+    || ((leb (lanesMost - 1) (s .lanes) && not (eqb m calendarEnd)) || leb lanesMost (s .lanes))
+
+-- 16 for "a lane line after" the plan is complete, which comes before all others; then 2
+unfoldable pub laneCheck : Session → ℕ → ℕ
+laneCheck s m = firstOf (refuseIf (s .complete) 16 ∷ (refuseIf (badLane s m) 2 ∷ []))
+
+-- the lane that completes the plan opens the wall, with open's own checks: 4 where a lent store is shorter than the
+-- plan needs, which only a direct caller can meet
+unfoldable pub laneNumber : Session → Chronon → Stores → ℕ
+laneNumber s m S =
+    firstOf
+    (laneCheck s (m .0)
+    ∷ (pick (eqb (m .0) calendarEnd) (openNumber (planOf (withLane s m)) (wallOf (withLane s m) S)) 0 ∷ []))
+
+-- ---- a change: the call that its word asks for
+
+abbrev pub callNumber : Word → Partitioning → Tuple → Stores → ℕ
+callNumber DrawIn p t S = insertNumber p Outer t S
+callNumber DrawOut p t S = deleteNumber p Outer t S
+callNumber SpotIn p t S = insertNumber p Inner t S
+callNumber SpotOut p t S = deleteNumber p Inner t S
+
+abbrev pub Called : Word → Partitioning → Tuple → Stores → Stores → Answer → Type 0
+Called DrawIn p t S S′ a = Inserted p Outer t S S′ a
+Called DrawOut p t S S′ a = Deleted p Outer t S S′ a
+Called SpotIn p t S S′ a = Inserted p Inner t S S′ a
+Called SpotOut p t S S′ a = Deleted p Inner t S S′ a
+
+-- 16 for "a change before the plan is complete", which comes before all others; then the call's own number
+unfoldable pub changeNumber : Session → Word → Tuple → Stores → ℕ
+changeNumber s w t S =
+    firstOf (refuseIf (not (s .complete)) 16 ∷ (callNumber w (planOf s) t (wallOf s S) ∷ []))
+
+-- ---- a line: its number, and the session after it
+
+abbrev pub stepNumber : Session → Line → Stores → ℕ
+stepNumber s (Lane m) S = laneNumber s m S
+stepNumber s (Change w t) S = changeNumber s w t S
+stepNumber s Malformed S = 15
+
+-- the session that a line makes where it is accepted
+abbrev pub sessionWith : Session → Line → Session
+sessionWith s (Lane m) = withLane s m
+sessionWith s (Change w t) = s
+sessionWith s Malformed = s
+
+unfoldable pub sessionAfter : Session → Line → Stores → Session
+sessionAfter s line S = pick (eqb (stepNumber s line S) 0) (sessionWith s line) s
+
+-- ---- what an accepted line leaves in the stores
+
+-- a wall that was opened: every word in use is 0, and no other word changed
+pub record WallOpened (s : Session) (S S′ : Stores) : Type 0 where
+  pub wall : wallOf s S′ ≡ blank (wallOf s S)
+  pub rest : restOf s S′ ≡ restOf s S
+
+-- a call on the wall: what it answered and left in the words in use, and no other word changed
+pub record WallChanged (s : Session) (w : Word) (t : Tuple) (S S′ : Stores) : Type 0 where
+  pub answer : Answer
+  pub number : answer .number ≡ 0
+  pub wall : Called w (planOf s) t (wallOf s S) (wallOf s S′) answer
+  pub rest : restOf s S′ ≡ restOf s S
+
+-- a lane line: every word is kept, or the wall is opened where it completes the plan
+pub record LaneTaken (s : Session) (m : Chronon) (S S′ : Stores) : Type 0 where
+  pub between : (m .0 ≡ calendarEnd → ⊥) → S′ ≡ S
+  pub completing : m .0 ≡ calendarEnd → WallOpened (withLane s m) S S′
+
+abbrev pub Taken : Session → Line → Stores → Stores → Type 0
+Taken s (Lane m) S S′ = LaneTaken s m S S′
+Taken s (Change w t) S S′ = WallChanged s w t S S′
+Taken s Malformed S S′ = ⊥
+
+-- ---- a step: the stores S before and S′ after a line that a session took
+
+pub record SteppedBy (s : Session) (line : Line) (S S′ : Stores) (r : Stepped) : Type 0 where
+  pub number : r .number ≡ stepNumber s line S
+  pub session : r .session ≡ sessionAfter s line S
+  pub refused : (r .number ≡ 0 → ⊥) → (r .session ≡ s) × (S′ ≡ S)
+  pub accepted : r .number ≡ 0 → Taken s line S S′
+
+-- ---- the parts of a step: opening a wall, and a change
+
+pub record WallOpening (s : Session) (S S′ : Stores) (n : ℕ) : Type 0 where
+  pub number : n ≡ openNumber (planOf s) (wallOf s S)
+  pub refused : (n ≡ 0 → ⊥) → S′ ≡ S
+  pub accepted : n ≡ 0 → WallOpened s S S′
+
+pub record WallChanging (s : Session) (w : Word) (t : Tuple) (S S′ : Stores) (n : ℕ) : Type 0 where
+  pub number : n ≡ changeNumber s w t S
+  pub refused : (n ≡ 0 → ⊥) → S′ ≡ S
+  pub accepted : n ≡ 0 → WallChanged s w t S S′

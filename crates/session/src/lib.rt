@@ -1,0 +1,262 @@
+// The program's work on one line (document 01, "Lines and the program"): lane lines make the plan, the one with
+// 99999999 opens the wall, and then changes go to the join. Nothing has to be checked before calling: every line gets
+// the first number of document 01's table that applies, for any session and any lent words. A refused line changes
+// nothing. The lent stores may be longer than the plan needs: the words beyond the plan's lanes are neither read nor
+// written. The definitions are in specs/Session.antt. Cost: that of the call on the join.
+ghost use mathlib.Core.Path.{_≡_};
+ghost use Prim.Native.Nat.{min};
+ghost use lib.Dec.{ltb};
+ghost use Rattle.lists.specs.Choice.{pick};
+ghost use Rattle.join.specs.Stores.{stores};
+ghost use Rattle.lines.specs.Line.{lineOf};
+ghost use Rattle.lines.specs.declared.Line.the-variants.{Lane};
+ghost use Rattle.session.specs.Session.{fresh, planOf, withLane, usedLanes, usedTuples, usedRows};
+ghost use Rattle.session.specs.Session.{laneCheck, Called, WallOpening, WallChanging, SteppedBy};
+use interval::time::CALENDAR_END;
+use interval::time::Chronon;
+use interval::tuple::Tuple;
+use join::Answer;
+use lines::Line;
+use lines::Word;
+use plan::Partitioning;
+use rows::Side;
+
+// The number of a lane line after the plan is complete, and of a change before it is.
+const OUT_OF_TURN: u64 = 16;
+
+// The lane lines taken so far, the last minute of each, and whether the last one completed the plan.
+pub struct Session {
+    pub lanes: u64,
+    pub lasts: [Chronon; 64],
+    pub complete: bool,
+}
+
+// What a line gets: the session after it, and its number (0: accepted).
+pub struct Stepped {
+    pub session: Session,
+    pub number: u64,
+}
+
+// Before the first line.
+pub fn start() -> Session
+    ensures { λ r. ⌜ r ≡ fresh ⌝ }
+{
+    Session {
+        lanes: 0,
+        lasts: [Chronon(0); 64],
+        complete: false,
+    }
+}
+
+// The plan that the session's lanes make: 32 tuples and 64 rows a lane.
+pub fn plan_of(s: Session) -> Partitioning
+    ensures { λ r. ⌜ r ≡ planOf s ⌝ }
+{
+    let lasts = s.lasts;
+    Partitioning {
+        count: s.lanes,
+        lasts,
+        tuples: 32,
+        rows: 64,
+    }
+}
+
+// The lanes whose words are in use: at most 8.
+fn used_lanes(s: Session) -> usize
+    ensures { λ r. ⌜ r ≡ usedLanes s ⌝ }
+{
+    if s.lanes < 8 {
+        return s.lanes as usize;
+    }
+    8
+}
+
+// The words in use of a tuple store of `len` words: 129 a lane, or all where there are fewer.
+pub fn used_tuples(s: Session, len: usize) -> usize
+    ensures { λ r. ⌜ r ≡ min (usedTuples s) len ⌝ }
+{
+    let used = used_lanes(s) * 129;
+    if len < used {
+        return len;
+    }
+    used
+}
+
+// The words in use of a rows store of `len` words: 321 a lane, or all where there are fewer.
+pub fn used_rows(s: Session, len: usize) -> usize
+    ensures { λ r. ⌜ r ≡ min (usedRows s) len ⌝ }
+{
+    let used = used_lanes(s) * 321;
+    if len < used {
+        return len;
+    }
+    used
+}
+
+// The checks of a lane line: 16 once the plan is complete, 2 for one that cannot be the next lane.
+fn lane_check(s: Session, m: Chronon) -> u64
+    ensures { λ r. ⌜ r ≡ laneCheck s (m .0) ⌝ }
+{
+    if s.complete {
+        return OUT_OF_TURN;
+    }
+    if 8 <= s.lanes {
+        return 2;
+    }
+    if 0 < s.lanes {
+        let lasts = s.lasts;
+        let at = s.lanes as usize - 1;
+        let before = lasts[at];
+        if m.0 <= before.0 {
+            return 2;
+        }
+    }
+    if s.lanes < 7 {
+        return 0;
+    }
+    if m.0 != CALENDAR_END {
+        return 2;
+    }
+    0
+}
+
+// The session with one lane more; with 8 lanes there is no further one.
+fn with_lane(s: Session, m: Chronon) -> Session
+    ensures { λ r. ⌜ r ≡ pick (ltb (s .lanes) 8) (withLane s m) s ⌝ }
+{
+    if 8 <= s.lanes {
+        return s;
+    }
+    let at = s.lanes as usize;
+    let mut lasts = s.lasts;
+    lasts[at] = m;
+    Session {
+        lanes: s.lanes + 1,
+        lasts,
+        complete: m.0 == CALENDAR_END,
+    }
+}
+
+// Opens the wall of the session's plan, on the words in use.
+fn open_wall(s: Session, outer: &mut [u64], inner: &mut [u64], rows: &mut [u64]) -> u64
+    ensures { λ r. ⌜ WallOpening s (stores (now (outer .entry)) (now (inner .entry)) (now (rows .entry))) (stores (now (outer .exit)) (now (inner .exit)) (now (rows .exit))) r ⌝ }
+{
+    let p = plan_of(s);
+    let a = used_tuples(s, outer.len());
+    let b = used_tuples(s, inner.len());
+    let c = used_rows(s, rows.len());
+    let answer = join::open(p, &mut outer[..a], &mut inner[..b], &mut rows[..c]);
+    answer.number
+}
+
+// A lane line.
+fn take_lane(
+    s: Session,
+    m: Chronon,
+    outer: &mut [u64],
+    inner: &mut [u64],
+    rows: &mut [u64],
+) -> Stepped
+    ensures { λ r. ⌜ SteppedBy s (Lane m) (stores (now (outer .entry)) (now (inner .entry)) (now (rows .entry))) (stores (now (outer .exit)) (now (inner .exit)) (now (rows .exit))) r ⌝ }
+{
+    let after = with_lane(s, m);
+    let number = lane_check(s, m);
+    if number != 0 {
+        return Stepped { session: s, number };
+    }
+    if m.0 != CALENDAR_END {
+        return Stepped {
+            session: after,
+            number: 0,
+        };
+    }
+    let refusal = open_wall(after, outer, inner, rows);
+    if refusal != 0 {
+        return Stepped {
+            session: s,
+            number: refusal,
+        };
+    }
+    Stepped {
+        session: after,
+        number: 0,
+    }
+}
+
+// The call that a change's word asks for: `draw` is the outer side, `spot` the inner, `in` inserts, `out` deletes.
+fn call(
+    p: Partitioning,
+    word: Word,
+    t: Tuple,
+    outer: &mut [u64],
+    inner: &mut [u64],
+    rows: &mut [u64],
+) -> Answer
+    ensures { λ r. ⌜ Called word p t (stores (now (outer .entry)) (now (inner .entry)) (now (rows .entry))) (stores (now (outer .exit)) (now (inner .exit)) (now (rows .exit))) r ⌝ }
+{
+    match word {
+        Word::DrawIn => join::insert(p, Side::Outer, t, outer, inner, rows),
+        Word::DrawOut => join::delete(p, Side::Outer, t, outer, inner, rows),
+        Word::SpotIn => join::insert(p, Side::Inner, t, outer, inner, rows),
+        Word::SpotOut => join::delete(p, Side::Inner, t, outer, inner, rows),
+    }
+}
+
+// A change, on the words in use.
+fn change_on(
+    s: Session,
+    word: Word,
+    t: Tuple,
+    outer: &mut [u64],
+    inner: &mut [u64],
+    rows: &mut [u64],
+) -> u64
+    ensures { λ r. ⌜ WallChanging s word t (stores (now (outer .entry)) (now (inner .entry)) (now (rows .entry))) (stores (now (outer .exit)) (now (inner .exit)) (now (rows .exit))) r ⌝ }
+{
+    if !s.complete {
+        return OUT_OF_TURN;
+    }
+    let p = plan_of(s);
+    let a = used_tuples(s, outer.len());
+    let b = used_tuples(s, inner.len());
+    let c = used_rows(s, rows.len());
+    let answer = call(p, word, t, &mut outer[..a], &mut inner[..b], &mut rows[..c]);
+    answer.number
+}
+
+// The work on a line that was read.
+pub fn step_value(
+    s: Session,
+    line: Line,
+    outer: &mut [u64],
+    inner: &mut [u64],
+    rows: &mut [u64],
+) -> Stepped
+    ensures { λ r. ⌜ SteppedBy s line (stores (now (outer .entry)) (now (inner .entry)) (now (rows .entry))) (stores (now (outer .exit)) (now (inner .exit)) (now (rows .exit))) r ⌝ }
+{
+    match line {
+        Line::Lane(m) => take_lane(s, m, outer, inner, rows),
+        Line::Change(word, t) => {
+            let number = change_on(s, word, t, outer, inner, rows);
+            Stepped { session: s, number }
+        }
+        Line::Malformed => Stepped {
+            session: s,
+            number: 15,
+        },
+    }
+}
+
+// The work on a line, given the bytes before its byte 10.
+pub fn step(
+    s: Session,
+    line: &[u8],
+    outer: &mut [u64],
+    inner: &mut [u64],
+    rows: &mut [u64],
+) -> Stepped
+    ensures { λ r. ⌜ SteppedBy s (lineOf (now (line .entry))) (stores (now (outer .entry)) (now (inner .entry)) (now (rows .entry))) (stores (now (outer .exit)) (now (inner .exit)) (now (rows .exit))) r ⌝ }
+{
+    let value = lines::read_line(line);
+    step_value(s, value, outer, inner, rows)
+}

@@ -1,0 +1,16 @@
+#!/bin/bash
+# Proves and builds the static library, compiles host.c with it, runs that, and compares what it prints with
+# expected.txt.
+# Works from any folder. Needs rt and a C compiler: that which CC names, else cc.
+set -eu
+
+here=$(cd "$(dirname "${BASH_SOURCE[0]}")" && pwd -P)
+root=$(cd "$here/../.." && pwd -P)
+room=$(mktemp -d)
+trap 'rm -rf "$room"' EXIT
+
+cd "$root"
+rt staticlib exports >"$room/build.out" 2>&1 || { tail -n 30 "$room/build.out" >&2; exit 1; }
+${CC:-cc} -std=c11 -Wall -Wextra -O2 -I "$root/include" -o "$room/host" "$here/host.c" target/staticlib/libexports.a
+"$room/host" | tee "$room/printed.txt"
+diff "$here/expected.txt" "$room/printed.txt" >&2

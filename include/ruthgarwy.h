@@ -1,0 +1,160 @@
+/*
+ * Ruthgarwy: a valid-time join that is kept current, as a static library. The library is the crate `exports`, built
+ * by `rt staticlib exports` as target/staticlib/libexports.a, for x86-64 Linux; of the C library it needs memcpy
+ * and memset only.
+ *
+ * A wall is three lent buffers of 64-bit words, the stores: store 1 holds drawings (outer), store 2 spots (inner),
+ * store 3 rows. Every call takes the plan and is lent the stores. It answers with three words, and returns the
+ * first of them.
+ *
+ * A slice argument is an address and a length in words. The address is not null and is aligned for uint64_t, the
+ * length is what lies there, and a buffer that a call writes overlaps no other argument of that call. Nothing else
+ * has to be checked before calling: every call answers for any words and any lengths. A refusal writes no word of
+ * plan, stores or caches.
+ *
+ * A plan, an answer or new last minutes of another length than named here are refused with 4 before all else, and
+ * then the answer's words are not written either.
+ */
+#ifndef RUTHGARWY_H
+#define RUTHGARWY_H
+
+#include <stddef.h>
+#include <stdint.h>
+
+#ifdef __cplusplus
+extern "C" {
+#endif
+
+/*
+ * A plan: the lane count (1 to 64), the tuple capacity of a lane (1 to 512), the row capacity of a lane (1 to
+ * 4096), then 64 places for last minutes, one for each lane; those beyond the lane count are ignored. Last minutes
+ * rise strictly, and the last one is RUTHGARWY_LAST_MINUTE.
+ */
+#define RUTHGARWY_PLAN_WORDS 67
+#define RUTHGARWY_PLAN_LANES 0
+#define RUTHGARWY_PLAN_TUPLES 1
+#define RUTHGARWY_PLAN_ROWS 2
+#define RUTHGARWY_PLAN_LASTS 3
+
+/* The places for last minutes: in a plan, and the words of the new ones that a recut is handed. */
+#define RUTHGARWY_CUT_WORDS 64
+
+/* The last minute of all; the first is 0. */
+#define RUTHGARWY_LAST_MINUTE 99999999
+
+/*
+ * An answer: the refusal number, then two counts, both 0 on a refusal and 0 where a call names none.
+ */
+#define RUTHGARWY_ANSWER_WORDS 3
+#define RUTHGARWY_ANSWER_NUMBER 0
+#define RUTHGARWY_ANSWER_CHANGED 1
+#define RUTHGARWY_ANSWER_EXAMINED 2
+
+/*
+ * The words of a store, from the plan's numbers. A store is its lanes in order; a lane is one count word, then its
+ * full capacity of records. A record of stores 1 and 2 is a tuple, four words: label number, item number, first
+ * minute, last minute. A record of store 3 is a row, five words: label number, drawing number, spot number, first
+ * minute, last minute.
+ */
+#define RUTHGARWY_TUPLE_WORDS 4
+#define RUTHGARWY_ROW_WORDS 5
+#define RUTHGARWY_TUPLE_STORE_WORDS(lanes, tuples) ((size_t)(lanes) * (1 + 4 * (size_t)(tuples)))
+#define RUTHGARWY_ROW_STORE_WORDS(lanes, rows) ((size_t)(lanes) * (1 + 5 * (size_t)(rows)))
+
+/* The words of a cache that is large enough for every sweep under such a plan. */
+#define RUTHGARWY_CACHE_WORDS(lanes, tuples) (4 * (size_t)(lanes) * (size_t)(tuples))
+
+/* The sides: drawings, and spots. Every word but 1 stands for spots. */
+#define RUTHGARWY_OUTER 1
+#define RUTHGARWY_INNER 2
+
+/*
+ * The refusal numbers. A call makes its checks in the order 1 to 9, 11 to 14, 10, and the first that applies
+ * answers.
+ */
+enum ruthgarwy_number {
+    RUTHGARWY_ACCEPTED = 0,       /* no check applies */
+    RUTHGARWY_LANE_COUNT = 1,     /* plan: the lane count is not 1 to 64 */
+    RUTHGARWY_LAST_MINUTES = 2,   /* plan: last minutes don't rise strictly or don't end at 99,999,999
+                                     (also a recut's new ones, after 5) */
+    RUTHGARWY_CAPACITY = 3,       /* plan: a capacity is out of its range */
+    RUTHGARWY_LENGTH = 4,         /* stores: a length isn't what the plan gives; and, before all else, a plan, an
+                                     answer or new last minutes are not of the length above */
+    RUTHGARWY_UNSOUND = 5,        /* stores, not in open: a store is not sound */
+    RUTHGARWY_LABEL = 6,          /* tuple: the label number is out of range (1 to 217,180,147,158) */
+    RUTHGARWY_ITEM = 7,           /* tuple: the item number is above 999,999 */
+    RUTHGARWY_SPAN = 8,           /* tuple: first after last, or last above 99,999,999 */
+    RUTHGARWY_LANE_FULL = 9,      /* insert: the tuple's own lane is at capacity */
+    RUTHGARWY_ROWS_FULL = 10,     /* insert, sweep: a rows lane would pass its capacity */
+    RUTHGARWY_ABSENT = 11,        /* withdraw: no equal tuple is stored */
+    RUTHGARWY_ROWS_MISSING = 12,  /* withdraw: store 3 holds fewer of a row than must go (meddled store) */
+    RUTHGARWY_NOT_EMPTY = 13,     /* recut: some count word is not 0 */
+    RUTHGARWY_CACHE_SHORT = 14,   /* sweep: a cache has fewer words than 4 times its side's need */
+    RUTHGARWY_LINE_FORM = 15,     /* line: not of the form that is read; of the program `wall`, and no call's answer */
+    RUTHGARWY_LINE_PLACE = 16     /* line: a change before the plan is complete, or a lane line after; the same */
+};
+
+/*
+ * Open: sets every word of the three stores to 0. Can be refused with 1 to 4. Counts: none.
+ */
+uint64_t ruthgarwy_open(const uint64_t *plan, size_t plan_words,
+                        uint64_t *outer, size_t outer_words,
+                        uint64_t *inner, size_t inner_words,
+                        uint64_t *rows, size_t rows_words,
+                        uint64_t *answer, size_t answer_words);
+
+/*
+ * Insert: appends the tuple to its lane on that side, and adds the rows it makes with the other side. Can be
+ * refused with 1 to 10. Counts: rows added; tuples looked at, which is the number stored in the other side's lanes
+ * from the one that contains the new tuple's first minute to the last lane.
+ */
+uint64_t ruthgarwy_insert(const uint64_t *plan, size_t plan_words,
+                          uint64_t side, uint64_t label, uint64_t item, uint64_t first, uint64_t last,
+                          uint64_t *outer, size_t outer_words,
+                          uint64_t *inner, size_t inner_words,
+                          uint64_t *rows, size_t rows_words,
+                          uint64_t *answer, size_t answer_words);
+
+/*
+ * Withdraw: takes out one tuple of that side that is equal in all four words, and its rows, each with its
+ * multiplicity. The lane's last record goes over the first equal one, and its own words become 0. Can be refused
+ * with 1 to 8, 11 and 12. Counts: rows removed; tuples looked at, as for insert.
+ */
+uint64_t ruthgarwy_delete(const uint64_t *plan, size_t plan_words,
+                          uint64_t side, uint64_t label, uint64_t item, uint64_t first, uint64_t last,
+                          uint64_t *outer, size_t outer_words,
+                          uint64_t *inner, size_t inner_words,
+                          uint64_t *rows, size_t rows_words,
+                          uint64_t *answer, size_t answer_words);
+
+/*
+ * Sweep: writes store 3 afresh from stores 1 and 2, which it only reads, with two lent caches: rcache for drawings,
+ * scache for spots. A side's need is the largest number, over lanes i, of that side's tuples stored above lane i
+ * whose first minute is at or before lane i's last; its cache has at least 4 words for each. After an accepted
+ * sweep the caches' contents are free. Can be refused with 1 to 5, 10 and 14. Counts: rows written; pairs compared.
+ */
+uint64_t ruthgarwy_sweep(const uint64_t *plan, size_t plan_words,
+                         const uint64_t *outer, size_t outer_words,
+                         const uint64_t *inner, size_t inner_words,
+                         uint64_t *rows, size_t rows_words,
+                         uint64_t *rcache, size_t rcache_words,
+                         uint64_t *scache, size_t scache_words,
+                         uint64_t *answer, size_t answer_words);
+
+/*
+ * Recut: puts new last minutes, `cuts`, RUTHGARWY_CUT_WORDS words, into the plan's first places, as many as it has
+ * lanes, on an empty wall. The lane count, the capacities and the other places stay; the stores are only read. Can
+ * be refused with 1 to 5 and 13. Counts: none.
+ */
+uint64_t ruthgarwy_repartition(uint64_t *plan, size_t plan_words,
+                               const uint64_t *cuts, size_t cuts_words,
+                               const uint64_t *outer, size_t outer_words,
+                               const uint64_t *inner, size_t inner_words,
+                               const uint64_t *rows, size_t rows_words,
+                               uint64_t *answer, size_t answer_words);
+
+#ifdef __cplusplus
+}
+#endif
+
+#endif
