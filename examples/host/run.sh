@@ -1,6 +1,5 @@
 #!/bin/bash
-# Proves and builds the static library, compiles host.c with it, runs that, and compares what it prints with
-# expected.txt.
+# Proves and builds the static library, compiles host.c with it, and runs that.
 # Works from any folder. Needs rt and a C compiler: that which CC names, else cc.
 set -eu
 
@@ -12,5 +11,4 @@ trap 'rm -rf "$room"' EXIT
 cd "$root"
 rt staticlib exports >"$room/build.out" 2>&1 || { tail -n 30 "$room/build.out" >&2; exit 1; }
 ${CC:-cc} -std=c11 -Wall -Wextra -O2 -I "$root/include" -o "$room/host" "$here/host.c" target/staticlib/libexports.a
-"$room/host" | tee "$room/printed.txt"
-diff "$here/expected.txt" "$room/printed.txt" >&2
+"$room/host"
