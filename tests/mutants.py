@@ -1,0 +1,379 @@
+# Shows that the test program join_cases can fail. The sources of join_cases and of the crates it uses are taken as
+# Rust: the ghost lines and the promises go, declared types become Copy, io and libc become a few lines over std. The
+# unchanged build must write what crates/join_cases/stdout says; then each wrong edit below is built by itself, and must
+# write something else, stop with an error or not end. Prints 'mutants: N caught, 0 missed'; exit 1 if one is missed, 2
+# if the test could not be made. Needs python3 and rustc, works from any folder and leaves nothing behind. It says
+# nothing of the proofs.
+from concurrent.futures import ThreadPoolExecutor
+from pathlib import Path
+import os
+import re
+import shutil
+import subprocess
+import sys
+import tempfile
+
+ROOT = Path(__file__).resolve().parent.parent
+PROGRAM = 'join_cases'
+STOPS_AFTER = 60        # seconds
+
+# (file, what stands there once, what is put in its place)
+EDITS = [
+    # the row rule
+    ('rows/lib.rt', 'if outer.label != inner.label {', 'if false {'),
+    ('rows/lib.rt', 'outer: outer.item,', 'outer: inner.item,'),
+    ('rows/lib.rt', 'Side::Inner => join_pair(u, t),', 'Side::Inner => join_pair(t, u),'),
+    ('interval/time.rt', 'if last.0 < first.0 {', 'if last.0 <= first.0 {'),
+    ('interval/time.rt', 'if a.0 < b.0 { b } else { a }', 'if a.0 < b.0 { a } else { b }'),
+    ('interval/time.rt', 'if b.0 < a.0 { b } else { a }', 'a'),
+    # which lanes are looked at, and which lane a row goes to
+    ('rows/add.rt', 'while j < count {', 'while j <= at {'),
+    ('rows/add.rt', 'if j < at {\n            i = j;', 'if j < at {\n            i = at;'),
+    ('rows/add.rt', 'let mut i = at;', 'let mut i = j;'),
+    ('rows/add.rt', 'let mut j = low;', 'let mut j = at;'),
+    ('rows/add.rt', 'let mut k: usize = 0;', 'let mut k: usize = 1;'),
+    ('rows/count.rt', 'tuples += part::count(', 'tuples += 0 * part::count('),
+    ('rows/count.rt', 'if capacity < held + more {', 'if capacity <= held + more {'),
+    ('rows/count.rt', 'if capacity < held + more {', 'if capacity < more {'),
+    ('rows/count.rt', 'while i <= at {', 'while i < at {'),
+    ('rows/count.rt', 'let mut i = low;', 'let mut i = at;'),
+    ('rows/count.rt', 'matches_from(side, t, other, room, at, count)', 'matches_from(side, t, other, room, 0, count)'),
+    (
+        'rows/add.rt',
+        '            i,\n        );\n        j += 1;',
+        '            i,\n        );\n        if j == at {\n'
+        '            add_from(side, t, partition::partition(other, room, PartitionIndex(j)), rows, size, i);\n'
+        '        }\n        j += 1;',
+    ),
+    # what is taken out
+    ('rows/take.rt', 'if stands < goes {', 'if stands < 1 {'),
+    ('rows/take.rt', 'if stands < goes {', 'if stands <= goes {'),
+    ('rows/take.rt', 'if stands < goes {', 'if false {'),
+    ('rows/take.rt', 'partition::remove_row(rows, size, PartitionIndex(i), place);', ''),
+    (
+        'rows/take.rt',
+        'partition::remove_row(rows, size, PartitionIndex(i), place);',
+        'let mut place = place;\n'
+        'while (place as u64) < part::count(partition::partition(rows, size, PartitionIndex(i))) {\n'
+        'partition::remove_row(rows, size, PartitionIndex(i), place);\n'
+        'place = part::place_of_row(partition::partition(rows, size, PartitionIndex(i)), row);\n'
+        '}',
+    ),
+    (
+        'rows/take.rt',
+        'partition::remove_row(rows, size, PartitionIndex(i), place);',
+        'partition::remove_row(rows, size, PartitionIndex(i), 0);',
+    ),
+    # one lane
+    ('part/lib.rt', 'write_tuple(part, 1 + 4 * k, moved);', 'write_tuple(part, 1, moved);'),
+    ('part/lib.rt', 'write_tuple(part, 1 + 4 * last, none);', ''),
+    ('part/lib.rt', 'part[0] = tuples - 1;', ''),
+    ('part/lib.rt', 'write_row(part, 1 + 5 * last, none);', ''),
+    ('part/lib.rt', 'write_row(part, 1 + 5 * k, moved);', ''),
+    ('part/lib.rt', 'part[0] = tuples + 1;', 'part[0] = tuples + 2;'),
+    ('part/lib.rt', 'write_tuple(part, 1 + 4 * (tuples as usize), t);', 'write_tuple(part, 1, t);'),
+    ('part/lib.rt', 'part[at + 4] = row.valid.last.0;', 'part[at + 4] = row.valid.first.0;'),
+    ('part/lib.rt', 'let mut tuple_place: usize = 0;', 'let mut tuple_place: usize = 1;'),
+    ('part/lib.rt', 'words[i] = 0;', 'words[i] = words[i] / 2;'),
+    ('part/lib.rt', 'equal_rows += 1;', 'equal_rows = 1;'),
+    # the checks
+    ('plan/lib.rt', 'if 64 < p.count {', 'if 65 < p.count {'),
+    ('plan/lib.rt', 'if next.0 <= last.0 {', 'if next.0 < last.0 {'),
+    ('plan/lib.rt', 'end.0 == CALENDAR_END', 'end.0 <= CALENDAR_END'),
+    ('plan/lib.rt', 'if 512 < p.tuples {', 'if 513 < p.tuples {'),
+    ('plan/lib.rt', 'if 4096 < p.rows {', 'if 4095 < p.rows {'),
+    ('plan/lib.rt', 'if m.0 <= last.0 {', 'if m.0 < last.0 {'),
+    ('partition/lib.rt', 'zeros_from(part, 1 + 4 * n)', 'true'),
+    ('partition/lib.rt', 'zeros_from(part, 1 + 5 * n)', 'true'),
+    ('partition/lib.rt', 'zeros_one_by_one(words, i)', 'true'),
+    ('partition/lib.rt', 'if t.valid.last.0 < first {', 'if false {'),
+    ('partition/lib.rt', 'row.valid.last.0 <= last', 'true'),
+    ('partition/lib.rt', 'len == p.count as usize * tuple_room(p)', 'p.count as usize * tuple_room(p) <= len'),
+    ('partition/lib.rt', 'len == p.count as usize * row_room(p)', 'len <= p.count as usize * row_room(p)'),
+    ('interval/tuple.rt', 'if LABEL_END < label {', 'if LABEL_END <= label {'),
+    ('interval/tuple.rt', 'if ITEM_END < item { 7 } else { 0 }', 'if ITEM_END <= item { 7 } else { 0 }'),
+    ('interval/tuple.rt', 'if CALENDAR_END < valid.last.0 {', 'if CALENDAR_END < valid.first.0 {'),
+    ('interval/tuple.rt', 'if r.inner != s.inner {', 'if false {'),
+    ('interval/tuple.rt', 'if a.item != b.item {', 'if false {'),
+    # the calls: what they do
+    (
+        'join/lib.rt',
+        'if full != 0 {\n        return refused(full);\n    }\n    insert_rows(',
+        'if true {\n        return refused(full);\n    }\n    insert_rows(',
+    ),
+    (
+        'join/lib.rt',
+        'if missing != 0 {',
+        'if true {',
+    ),
+    ('join/lib.rt', 'partition::append_tuple(own, room, at, t);', ''),
+    ('join/lib.rt', 'partition::append_tuple(own, room, at, t);', 'partition::append_tuple(own, room, low, t);'),
+    ('join/lib.rt', 'rows::add::add_rows(side, t, other, room, p.count, low.0, at.0, rows, size);', ''),
+    (
+        'join/lib.rt',
+        'rows::add::add_rows(side, t, other, room, p.count, low.0, at.0, rows, size);',
+        'rows::add::add_rows(side, t, other, room, p.count, at.0, at.0, rows, size);',
+    ),
+    ('join/lib.rt', 'partition::remove_tuple(own, room, at, place);', 'partition::remove_tuple(own, room, at, 0);'),
+    ('join/lib.rt', 'rows::take::take_rows(side, t, other, room, p.count, low.0, at.0, rows, size);', ''),
+    (
+        'join/lib.rt',
+        'rows::take::take_rows(side, t, other, room, p.count, low.0, at.0, rows, size);',
+        'rows::take::take_rows(side, t, other, room, p.count, at.0, at.0, rows, size);',
+    ),
+    (
+        'join/lib.rt',
+        'Side::Inner => insert_into(p, side, t, inner, outer, rows),',
+        'Side::Inner => insert_into(p, side, t, outer, inner, rows),',
+    ),
+    (
+        'join/lib.rt',
+        'Side::Inner => delete_from(p, side, t, inner, outer, rows),',
+        'Side::Inner => delete_from(p, Side::Outer, t, inner, outer, rows),',
+    ),
+    ('join/lib.rt', 'part::clear(inner);', ''),
+    # the sweep: what it carries down, which tuples it joins, and what it counts
+    ('cache/lib.rt', 'if cached.valid.first.0 <= last.0 {', 'if cached.valid.first.0 < last.0 {'),
+    ('cache/lib.rt', 'if cached.valid.first.0 <= last.0 {', 'if true {'),
+    ('cache/lib.rt', 'if own.valid.first.0 <= last.0 {', 'if own.valid.first.0 < last.0 {'),
+    ('cache/lib.rt', 'if own.valid.first.0 <= last.0 {', 'if true {'),
+    ('cache/lib.rt', 'put(cache, kept, cached);', ''),
+    (
+        'cache/lib.rt',
+        'let kept = purge(cache, n, last);\n    add(cache, kept, part, last)',
+        'let added = add(cache, n, part, last);\n    purge(cache, added, last)',
+    ),
+    ('cache/lib.rt', 'add(cache, kept, part, last)', 'add(cache, n, part, last)'),
+    ('cache/lib.rt', 'let tuples = started_from(store, room, i + 1,', 'let tuples = started_from(store, room, i,'),
+    ('cache/lib.rt', 'if most < tuples {', 'if true {'),
+    (
+        'sweep/lanes.rt',
+        'own_own + (own_cached + cached_own)',
+        'let mut k: usize = 0;\n    while k < d {\n        let mut l: usize = 0;\n        while l < c {\n'
+        '            let pair = rows::oriented(Side::Outer, cache::tuple(rcache, l), cache::tuple(scache, k));\n'
+        '            if let rows::Pair::Makes(row) = pair {\n'
+        '                partition::append_row(rows, size, PartitionIndex(i), row);\n            }\n'
+        '            l += 1;\n        }\n        k += 1;\n    }\n    own_own + (own_cached + cached_own)',
+    ),
+    ('sweep/lanes.rt', 'join_run(Side::Inner, scache, d, outer, rows, size, i)', '0'),
+    ('sweep/lanes.rt', 'join_run(Side::Outer, rcache, c, inner, rows, size, i)', '0'),
+    ('sweep/lanes.rt', 'own_own + (own_cached + cached_own)', 'own_own + (own_own + (own_cached + cached_own))'),
+    ('sweep/lanes.rt', 'own_own + (own_cached + cached_own)', 'own_own + own_cached'),
+    ('sweep/lanes.rt', 'part::clear(rows);', ''),
+    ('sweep/lanes.rt', 'let last = lasts[i.0 as usize - 1];', 'let last = lasts[i.0 as usize];'),
+    ('sweep/count.rt', 'if p.rows < rows_of(', 'if p.rows <= rows_of('),
+    ('sweep/count.rt', 'i.0 + 1, p.count, last, own_outer)', 'i.0, p.count, last, own_outer)'),
+    ('join/lib.rt', 'changed: written,', 'changed: compared,'),
+    ('join/lib.rt', 'if rcache < 4 * cache::need(', 'if rcache <= 4 * cache::need('),
+    ('join/lib.rt', 'if scache < 4 * cache::need(', 'if scache + 1 < 4 * cache::need('),
+    ('join/lib.rt', 'if scache < 4 * cache::need(p, inner)', 'if scache < 4 * cache::need(p, outer)'),
+    ('join/lib.rt', '        return 14;\n    }\n    if sweep::', '        return 10;\n    }\n    if sweep::'),
+    ('join/lib.rt', 'if sweep::count::overfull(p, outer, inner) {', 'if false {'),
+    (
+        'join/lib.rt',
+        'if rcache < 4 * cache::need(',
+        'if sweep::count::overfull(p, outer, inner) {\n        return 10;\n    }\n    if rcache < 4 * cache::need(',
+    ),
+    (
+        'join/lib.rt',
+        'if tight != 0 {\n        return refused(tight);',
+        'if tight != 0 {\n        part::clear(rcache);\n        return refused(tight);',
+    ),
+    (
+        'join/lib.rt',
+        'if tight != 0 {\n        return refused(tight);',
+        'if tight != 0 {\n        part::clear(rows);\n        return refused(tight);',
+    ),
+    # the repartition
+    ('join/lib.rt', 'plan: plan::recut(p, new),', 'plan: p,'),
+    ('plan/lib.rt', 'let mut places = p.count;', 'let mut places: u64 = 64;'),
+    ('plan/lib.rt', 'let mut i: u64 = 0;\n    while i < places {', 'let mut i: u64 = 1;\n    while i < places {'),
+    ('join/lib.rt', 'if !plan::covers(p.count, new) {', 'if false {'),
+    ('join/lib.rt', '        return 2;', '        return 13;'),
+    ('join/lib.rt', 'if !is_empty(outer, room, p.count) {', 'if false {'),
+    ('join/lib.rt', 'if !is_empty(inner, room, p.count) {', 'if false {'),
+    (
+        'join/lib.rt',
+        'if kept != 0 {\n        return NewPlan {\n            answer: refused(kept),\n            plan: p,',
+        'if kept != 0 {\n        return NewPlan {\n            answer: refused(kept),\n'
+        '            plan: plan::recut(p, new),',
+    ),
+    (
+        'join/lib.rt',
+        'if !plan::covers(p.count, new) {\n        return 2;\n    }\n    let room = partition::tuple_room(p);',
+        'let room = partition::tuple_room(p);\n    if !is_empty(outer, room, p.count) {\n        return 13;\n    }\n'
+        '    if !plan::covers(p.count, new) {\n        return 2;\n    }',
+    ),
+    # the calls: a refusal that writes, and rows that are put in another order in lanes that are not concerned
+    (
+        'join/lib.rt',
+        'if full != 0 {\n        return refused(full);\n    }\n    insert_rows(',
+        'if full != 0 {\n        if full == 10 {\n            partition::append_tuple(own, '
+        'partition::tuple_room(p), plan::home(p, t.valid.last), t);\n        }\n'
+        '        return refused(full);\n    }\n    insert_rows(',
+    ),
+    (
+        'join/lib.rt',
+        'partition::append_tuple(own, room, at, t);',
+        'partition::append_tuple(own, room, at, t);\n'
+        'if rows[0] > 1 && at.0 > 0 && low.0 > 0 {\n    for f in 1..6 {\n        rows.swap(f, f + 5);\n    }\n}',
+    ),
+    # the calls: their counts
+    ('join/lib.rt', 'changed: 0,', 'changed: number,'),
+    (
+        'join/lib.rt',
+        'let changed = rows::count::matches_from(side, t, other, room, low.0, p.count);',
+        'let changed = rows::count::matches_from(side, t, other, room, at.0, p.count);',
+    ),
+    (
+        'join/lib.rt',
+        'let examined = rows::count::examined_from(other, room, low.0, p.count);',
+        'let examined = rows::count::examined_from(other, room, at.0, p.count);',
+    ),
+    (
+        'join/lib.rt',
+        'let looked = rows::count::examined_from(other, room, low.0, p.count);',
+        'let looked = rows::count::examined_from(other, room, 0, p.count);',
+    ),
+    ('join/lib.rt', 'changed: removed,', 'changed: 0,'),
+    # the calls: their numbers, and which check comes first
+    ('join/lib.rt', 'if p.tuples <= held {', 'if p.tuples < held + 2 {'),
+    ('join/lib.rt', '        return 9;', '        return 10;'),
+    ('join/lib.rt', '        return 11;', '        return 12;'),
+    (
+        'join/lib.rt',
+        'if held <= part::place_of_tuple(lane, t) {\n        return 11;\n    }\n'
+        '    if rows::take::lacking(side, t, other, room, p.count, low.0, at.0, rows, size) {\n'
+        '        return 12;\n    }\n',
+        'if rows::take::lacking(side, t, other, room, p.count, low.0, at.0, rows, size) {\n        return 12;\n    }\n'
+        '    if held <= part::place_of_tuple(lane, t) {\n        return 11;\n    }\n',
+    ),
+    (
+        'join/lib.rt',
+        'if p.tuples <= held {',
+        'if p.tuples <= held && !rows::count::overfull(\n'
+        '        side, t, other, room, p.count, low.0, at.0, rows, size, p.rows,\n    ) {',
+    ),
+    (
+        'join/lib.rt',
+        'let number = store_number(p, outer, inner, rows);',
+        'let early = interval::tuple::tuple_number(t);\n    if early != 0 {\n        return refused(early);\n    }\n'
+        '    let number = store_number(p, outer, inner, rows);',
+    ),
+    (
+        'join/lib.rt',
+        'let unsound = store_number(p, outer, inner, rows);',
+        'let unsound = lengths_number(p, outer.len(), inner.len(), rows.len());',
+    ),
+    ('join/lib.rt', 'if !partition::fits_tuples(p, inner) {', 'if false {'),
+    ('join/lib.rt', 'if !partition::sound_tuples(p, inner) {', 'if false {'),
+    ('join/lib.rt', 'if !partition::sound_rows(p, rows) {', 'if false {'),
+    (
+        'plan/lib.rt',
+        'if !covers(p.count, lasts) {',
+        'if p.tuples < 1 {\n        return 3;\n    }\n    if !covers(p.count, lasts) {',
+    ),
+    (
+        'interval/tuple.rt',
+        'let label = label_check(t.label);\n    if label != 0 {\n        return label;\n    }\n'
+        '    let item = item_check(t.item);',
+        'let item = item_check(t.item);\n    if item != 0 {\n        return item;\n    }\n'
+        '    let item = label_check(t.label);',
+    ),
+]
+
+STAND_INS = '''
+pub mod libc {
+    pub const STDOUT_FILENO: i32 = 1;
+}
+pub mod io {
+    use std::io::Write;
+    pub fn write_all(_: i32, text: &[u8]) -> bool {
+        std::io::stdout().write_all(text).is_ok()
+    }
+    pub fn print_decimal(fd: i32, n: u64) -> bool {
+        write_all(fd, n.to_string().as_bytes())
+    }
+}
+'''
+
+def fail(words):
+    print(f'mutants: {words}', file=sys.stderr)
+    sys.exit(2)
+
+# The program's crate and all that it uses, of those of this repository, by crates.txt.
+def crates():
+    uses = {}
+    for line in (ROOT / 'crates.txt').read_text().splitlines():
+        name, _, used = line.partition('#')[0].partition(':')
+        uses[name.strip()] = used.split()
+    found, left = [], [PROGRAM]
+    while left:
+        crate = left.pop()
+        if crate in uses and crate not in found:
+            found.append(crate)
+            left += uses[crate]
+    return found
+
+# One file as Rust, a module of the one crate that all become.
+def as_rust(text, crate, names):
+    text = re.sub(r'(?m)^\s*(ghost use|requires|ensures)\b.*\n', '', text)
+    text = re.sub(r'(?m)^((pub(\(crate\))? )?(struct|enum) )', r'#[derive(Clone, Copy)]\n\1', text)
+    text = re.sub(r'\bcrate::', f'crate::{crate}::', text)
+    text = re.sub(r'(?<![\w:])(' + '|'.join(names) + r')::', r'crate::\1::', text)
+    return re.sub(r'(?m)^fn main\(\)', 'pub fn main()', text)
+
+# All files as Rust, by their paths.
+def sources(edit=None):
+    names = crates()
+    files = {}
+    for crate in names:
+        for path in sorted((ROOT / 'crates' / crate / 'src').glob('*.rt')):
+            text = path.read_text()
+            at = f'{crate}/{path.name}'
+            if edit and edit[0] == at:
+                if text.count(edit[1]) != 1:
+                    fail(f'{at} has {text.count(edit[1])} times: {edit[1]}')
+                text = text.replace(edit[1], edit[2])
+            name = 'mod' if path.stem in ('lib', 'main') else path.stem
+            files[f'{crate}/{name}.rs'] = as_rust(text, crate, names + ['io', 'libc'])
+    mods = ''.join(f'pub mod {crate};\n' for crate in names)
+    files['main.rs'] = f'#![allow(warnings)]\n{mods}{STAND_INS}\nfn main() {{\n    {PROGRAM}::main();\n}}\n'
+    return files
+
+# What the build with that edit writes; None if it stops with an error or does not end.
+def written(folder, edit=None):
+    for path, text in sources(edit).items():
+        (folder / path).parent.mkdir(parents=True, exist_ok=True)
+        (folder / path).write_text(text)
+    built = subprocess.run(
+        ['rustc', '--edition', '2021', '-C', 'debuginfo=0', '-C', 'opt-level=0', '-C', 'overflow-checks=on',
+         '-o', 'program', 'main.rs'],
+        cwd=folder, stdout=subprocess.PIPE, stderr=subprocess.STDOUT, text=True)
+    if built.returncode:
+        fail(f'rustc refuses {edit or "the unchanged sources"}:\n{built.stdout}')
+    try:
+        ran = subprocess.run(
+            [folder / 'program'], stdout=subprocess.PIPE, stderr=subprocess.DEVNULL, timeout=STOPS_AFTER)
+    except subprocess.TimeoutExpired:
+        return None
+    return ran.stdout if ran.returncode == 0 else None
+
+def main():
+    if not shutil.which('rustc'):
+        fail('there is no rustc')
+    wanted = (ROOT / 'crates' / PROGRAM / 'stdout').read_bytes()
+    with tempfile.TemporaryDirectory() as room:
+        room = Path(room)
+        if written(room / 'unchanged') != wanted:
+            fail(f'the unchanged sources do not write crates/{PROGRAM}/stdout')
+        with ThreadPoolExecutor(os.cpu_count()) as pool:
+            outs = list(pool.map(lambda k: written(room / str(k), EDITS[k]), range(len(EDITS))))
+    missed = [edit for edit, out in zip(EDITS, outs) if out == wanted]
+    for path, old, new in missed:
+        print(f'missed: {path}: {old!r} -> {new!r}')
+    print(f'mutants: {len(EDITS) - len(missed)} caught, {len(missed)} missed')
+    sys.exit(1 if missed else 0)
+
+if __name__ == '__main__':
+    main()
