@@ -21,14 +21,11 @@ use Rattle.rows.specs.Join.{madeWith}
 use Rattle.rows.specs.declared.Side.{Side}
 use Rattle.rows.proofs.Joins.{made-same, apart-gains}
 use Rattle.join.specs.Changes.{made, Grown}
+use Rattle.join.proofs.Sites.{legal-is}
 use Rattle.history.specs.KeptCurrent.{Untouched}
 use Rattle.history.proofs.Held.{TuplesHeld, joinFrom, join-from-more}
 
 -- ---- a legal tuple belongs to one of the plan's partitions
-
-pub legal-by : (t : Tuple) → tupleNumber t ≡ 0 → legalTuple t ≡ true
-unfolding legalTuple
-legal-by t e = eq-eqb (tupleNumber t) 0 e
 
 pub home-in-plan : (p : Partitioning) → planNumber p ≡ 0 → length (p .lasts) ≡ 64 → (t : Tuple) → tupleNumber t ≡ 0
     → home p (to t) < p .count
@@ -37,7 +34,7 @@ home-in-plan p legal places t e =
     let plan = legal-plan p legal in
     omega (
       arith,
-      home-within (cutsOf p) (plan .covered) (to t) (valid-ok (t .valid) (legal-tuple t (legal-by t e) .valid) .1),
+      home-within (cutsOf p) (plan .covered) (to t) (valid-ok (t .valid) (legal-tuple t (legal-is t e) .valid) .1),
       length-cuts p places (plan .most),
     )
 

@@ -17,6 +17,7 @@ use Rattle.rows.proofs.Joins.{join-empty-left}
 use Rattle.join.specs.Stores.{Stores, Opened}
 use Rattle.join.specs.declared.Answer.{Answer}
 use Rattle.join.proofs.Checks.{fitting}
+use Rattle.join.proofs.ChangeCalls.{tuples-long, rows-long}
 use Rattle.history.specs.Machine.{Call, Told, Machine, told, next, machineAfter}
 use Rattle.history.specs.Runs.{Step, inserted, deleted, swept, repartitioned, Run, fresh, then}
 use Rattle.history.specs.KeptCurrent.{AllOwed, KeptCurrent}
@@ -28,14 +29,6 @@ use Rattle.history.proofs.Sweeps.{sweep-done}
 use Rattle.history.proofs.Repartitions.{repartition-done}
 
 -- ---- open
-
-tuples-long : (p : Partitioning) (n : ℕ) → fitsTuples p n ≡ true → n ≡ p .count * tupleRoom p
-unfolding fitsTuples
-tuples-long p n e = eqb-true n (p .count * tupleRoom p) (and-right (legalPlan p) (eqb n (p .count * tupleRoom p)) e)
-
-rows-long : (p : Partitioning) (n : ℕ) → fitsRows p n ≡ true → n ≡ p .count * rowRoom p
-unfolding fitsRows
-rows-long p n e = eqb-true n (p .count * rowRoom p) (and-right (legalPlan p) (eqb n (p .count * rowRoom p)) e)
 
 -- the machine at first
 abbrev first : Partitioning → Machine

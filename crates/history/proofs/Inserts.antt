@@ -30,8 +30,9 @@ use Rattle.rows.proofs.Joins.{rows-at-append}
 use Rattle.join.specs.Stores.{Stores, storeNumber}
 use Rattle.join.specs.Changes.{ownStore, otherStore, full, Grown, inserted, insertNumber, Inserted}
 use Rattle.join.specs.declared.Answer.{Answer}
+use Rattle.join.proofs.Sites.{legal-is}
 use Rattle.history.specs.Machine.{insert, Machine, put}
-use Rattle.history.proofs.Changes.{legal-by, home-in-plan, join-made, untouched}
+use Rattle.history.proofs.Changes.{home-in-plan, join-made, untouched}
 use Rattle.history.proofs.Held.{TuplesHeld, RowsHeld, Wall, rows-held-same}
 use Rattle.history.proofs.Kept.{Kept, Done, ownTuples, otherTuples, withOwn, kept-from, kept-with}
 use Rattle.history.proofs.Kept.{told-accepted, done-refused}
@@ -66,7 +67,7 @@ module _ (p : Partitioning) (t : Tuple) (ws : List ℕ) (ts : List Tuple) (h : T
   more-sound =
       sound-appended tupleWidth (p .tuples) (λ ws. tupleAtHome p (home p (to t)) (tupleOf ws)) (tupleWords t) part
       (sound-tuples-at p ws (h .sound) (home p (to t)) within) part-long part-free refl
-      (and-both (legalTuple t) _ (legal-by t legal) (eq-eqb (home p (to t)) (home p (to t)) refl))
+      (and-both (legalTuple t) _ (legal-is t legal) (eq-eqb (home p (to t)) (home p (to t)) refl))
 
   more-stored : Same sameTuple (storedTuples p (inserted p t ws)) (t ∷ storedTuples p ws)
   unfolding storedTuples
