@@ -45,6 +45,3 @@ for l, i, f, t in product(labels, items, minutes, minutes):
                                (8, f <= t and t in range(0, 10 ** 8))) if not legal]
     answers[min(hits, default=0)] += 1
 print('tuples,%d,0,%d,%d,%d,%d' % (sum(answers.values()), answers[0], answers[6], answers[7], answers[8]))
-# for the program's table of rows of Z
-import sys
-print(upto[1:], file=sys.stderr)
