@@ -14,11 +14,12 @@ use Rattle.interval.specs.declared.tuple.Tuple.{Tuple}
 use Rattle.plan.specs.Plan.{numbers}
 use Rattle.plan.specs.declared.Partitioning.{Partitioning}
 use Rattle.rows.specs.declared.Side.{Side}
-use Rattle.join.specs.Stores.{Stores, Opened}
+use Rattle.stores.specs.Stores.{Stores}
+use Rattle.stores.specs.declared.Answer.{Answer}
+use Rattle.join.specs.Opening.{Opened}
 use Rattle.join.specs.Changes.{Inserted, Deleted}
 use Rattle.join.specs.Sweeps.{Swept}
 use Rattle.join.specs.Repartitioning.{Repartitioned}
-use Rattle.join.specs.declared.Answer.{Answer}
 use Rattle.exports.specs.Exports.{planWords, answerWords, planIn, wordsOf, lengthsAre, Exported}
 use Rattle.exports.proofs.Words.{plan-put-back}
 

@@ -17,9 +17,9 @@ use Rattle.lists.proofs.Choice.{bool-cases}
 use Rattle.interval.specs.declared.time.Chronon.{Chronon}
 use Rattle.plan.specs.Plan.{numbers, recutTo}
 use Rattle.plan.specs.declared.Partitioning.{Partitioning}
-use Rattle.join.specs.Stores.{Stores}
+use Rattle.stores.specs.Stores.{Stores}
+use Rattle.stores.specs.declared.Answer.{Answer}
 use Rattle.join.specs.Repartitioning.{Repartitioned}
-use Rattle.join.specs.declared.Answer.{Answer}
 use Rattle.exports.specs.Exports.{planWords, minutes, planIn}
 
 -- ---- copying: the first i members of `source` stand in `whole` from place `at` on, all else as it was

@@ -20,8 +20,8 @@ use Rattle.partition.specs.Store.{storedTuples}
 use Rattle.rows.specs.Join.{madeWith}
 use Rattle.rows.specs.declared.Side.{Side}
 use Rattle.rows.proofs.Joins.{made-same, apart-gains}
-use Rattle.join.specs.Changes.{made, Grown}
-use Rattle.join.proofs.Sites.{legal-is}
+use Rattle.insertion.specs.Changes.{made, Grown}
+use Rattle.insertion.proofs.Sites.{legal-is}
 use Rattle.history.specs.KeptCurrent.{Untouched}
 use Rattle.history.proofs.Held.{TuplesHeld, joinFrom, join-from-more}
 

@@ -14,9 +14,10 @@ use Rattle.plan.specs.Plan.{planNumber, legalPlan}
 use Rattle.plan.specs.declared.Partitioning.{Partitioning}
 use Rattle.partition.specs.Store.{tupleRoom, rowRoom, fitsTuples, fitsRows}
 use Rattle.rows.proofs.Joins.{join-empty-left}
-use Rattle.join.specs.Stores.{Stores, Opened}
-use Rattle.join.specs.declared.Answer.{Answer}
-use Rattle.join.proofs.Checks.{fitting}
+use Rattle.stores.specs.Stores.{Stores}
+use Rattle.stores.specs.declared.Answer.{Answer}
+use Rattle.stores.proofs.Checks.{fitting}
+use Rattle.join.specs.Opening.{Opened}
 use Rattle.join.proofs.ChangeCalls.{tuples-long, rows-long}
 use Rattle.history.specs.Machine.{Call, Told, Machine, told, next, machineAfter}
 use Rattle.history.specs.Runs.{Step, inserted, deleted, swept, repartitioned, Run, fresh, then}
@@ -31,10 +32,10 @@ use Rattle.history.proofs.Repartitions.{repartition-done}
 -- ---- open
 
 -- the machine at first
-abbrev first : Partitioning → Machine
+abbrev pub first : Partitioning → Machine
 first p = record { plan = p; outer = []; inner = [] }
 
-opened-kept : (p : Partitioning) → length (p .lasts) ≡ 64 → planNumber p ≡ 0 → (s s₀ : Stores) (a : Answer)
+pub opened-kept : (p : Partitioning) → length (p .lasts) ≡ 64 → planNumber p ≡ 0 → (s s₀ : Stores) (a : Answer)
     → Opened p s s₀ a → a .number ≡ 0 → Kept (first p) p s₀
 opened-kept p places legal s s₀ a o z =
     let f = fitting p (length (s .outer)) (length (s .inner)) (length (s .rows)) (sym (o .number) ∙ z) in
@@ -53,7 +54,7 @@ opened-kept p places legal s s₀ a o z =
 zero-or-not : (n : ℕ) → (n ≡ 0) ⊎ (n ≡ 0 → ⊥)
 zero-or-not n = ⊎-elim (λ e. inl (eqb-true n 0 e)) (λ e. inr (eqb-false n 0 e)) (bool-cases (eqb n 0))
 
-step-done : {p p′ : Partitioning} {s s′ : Stores} {c : Call} {a : Answer} (m : Machine) → Kept m p s
+pub step-done : {p p′ : Partitioning} {s s′ : Stores} {c : Call} {a : Answer} (m : Machine) → Kept m p s
     → Step p s c a p′ s′ → Done m p s c (a .number) p′ s′
 step-done m k (inserted {p = p} {side = side} {t = t} {s = s} {s′ = s′} {a = a} h) =
     insert-done m p side t s s′ a k h (zero-or-not (a .number))
@@ -67,7 +68,7 @@ step-done m k (repartitioned {p = p} {p′ = p′} {new = new} {s = s} {s′ = s
 -- ---- every list of calls
 
 -- the machine after one call more
-machine-next : (p : Partitioning) (t : Told) (ts : List Told) (m n : Machine) → machineAfter p ts ≡ some m
+pub machine-next : (p : Partitioning) (t : Told) (ts : List Told) (m n : Machine) → machineAfter p ts ≡ some m
     → told t m ≡ some n → machineAfter p (t ∷ ts) ≡ some n
 machine-next p t ts m n e h = ap (next t) e ∙ h
 

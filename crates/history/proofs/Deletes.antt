@@ -32,9 +32,11 @@ use Rattle.partition.proofs.Stores.{stored-more, tuples-stored-at}
 use Rattle.rows.specs.declared.Side.{Side}
 use Rattle.rows.specs.declared.Side.the-variants.{Outer, Inner}
 use Rattle.rows.proofs.Joins.{rows-at-append}
-use Rattle.join.specs.Stores.{Stores, storeNumber}
-use Rattle.join.specs.Changes.{ownStore, otherStore, Grown, deleted, deleteNumber, Deleted}
-use Rattle.join.specs.declared.Answer.{Answer}
+use Rattle.stores.specs.Stores.{Stores, storeNumber}
+use Rattle.stores.specs.declared.Answer.{Answer}
+use Rattle.insertion.specs.Changes.{Grown}
+use Rattle.deletion.specs.Deletes.{deleted}
+use Rattle.join.specs.Changes.{ownStore, otherStore, deleteNumber, Deleted}
 use Rattle.history.specs.Machine.{delete, Machine, takeOut}
 use Rattle.history.proofs.Changes.{home-in-plan, join-made, untouched}
 use Rattle.history.proofs.Held.{TuplesHeld, RowsHeld, Wall, join-from-same, rows-held-same}

@@ -27,10 +27,12 @@ use Rattle.partition.proofs.Stores.{stored-more}
 use Rattle.rows.specs.declared.Side.{Side}
 use Rattle.rows.specs.declared.Side.the-variants.{Outer, Inner}
 use Rattle.rows.proofs.Joins.{rows-at-append}
-use Rattle.join.specs.Stores.{Stores, storeNumber}
-use Rattle.join.specs.Changes.{ownStore, otherStore, full, Grown, inserted, insertNumber, Inserted}
-use Rattle.join.specs.declared.Answer.{Answer}
-use Rattle.join.proofs.Sites.{legal-is}
+use Rattle.stores.specs.Stores.{Stores, storeNumber}
+use Rattle.stores.specs.declared.Answer.{Answer}
+use Rattle.insertion.specs.Changes.{Grown}
+use Rattle.insertion.specs.Inserts.{full, inserted}
+use Rattle.insertion.proofs.Sites.{legal-is}
+use Rattle.join.specs.Changes.{ownStore, otherStore, insertNumber, Inserted}
 use Rattle.history.specs.Machine.{insert, Machine, put}
 use Rattle.history.proofs.Changes.{home-in-plan, join-made, untouched}
 use Rattle.history.proofs.Held.{TuplesHeld, RowsHeld, Wall, rows-held-same}

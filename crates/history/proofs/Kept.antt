@@ -18,9 +18,9 @@ use Rattle.partition.specs.Store.{tupleRoom, rowRoom, fitsTuples, fitsRows, sou
 use Rattle.rows.specs.Join.{joinOf}
 use Rattle.rows.specs.declared.Side.{Side}
 use Rattle.rows.specs.declared.Side.the-variants.{Outer, Inner}
-use Rattle.join.specs.Stores.{Stores, fitsAll, sound}
+use Rattle.stores.specs.Stores.{Stores, fitsAll, sound}
+use Rattle.stores.proofs.Checks.{all-hold}
 use Rattle.join.specs.Changes.{ownStore, otherStore}
-use Rattle.join.proofs.Checks.{all-hold}
 use Rattle.history.specs.Machine.{Call, Machine, accept, told}
 use Rattle.history.specs.KeptCurrent.{Current, Owed}
 use Rattle.history.proofs.Held.{TuplesHeld, RowsHeld, Wall, tuples-held-at}

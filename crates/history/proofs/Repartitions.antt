@@ -33,9 +33,9 @@ use Rattle.partition.specs.Store.{soundTuplePart, soundRowPart, storedTuples, r
 use Rattle.partition.proofs.Stores.{sound-tuples-at, sound-rows-at, tuples-sound-by, rows-sound-by}
 use Rattle.rows.specs.Join.{joinOf}
 use Rattle.rows.proofs.Joins.{join-same, join-empty-left, rows-at-same}
-use Rattle.join.specs.Stores.{Stores, storeNumber}
+use Rattle.stores.specs.Stores.{Stores, storeNumber}
+use Rattle.stores.specs.declared.Answer.{Answer}
 use Rattle.join.specs.Repartitioning.{emptyStore, emptyWall, repartitionNumber, Repartitioned}
-use Rattle.join.specs.declared.Answer.{Answer}
 use Rattle.history.specs.Machine.{repartition, Machine}
 use Rattle.history.proofs.Held.{TuplesHeld, RowsHeld}
 use Rattle.history.proofs.Kept.{Kept, Done, told-accepted, done-refused}

@@ -12,9 +12,9 @@ use Rattle.partition.specs.Store.{storedTuples}
 use Rattle.rows.specs.Join.{joinOf}
 use Rattle.rows.proofs.Joins.{join-same}
 use Rattle.sweep.specs.Pairs.{joined}
-use Rattle.join.specs.Stores.{Stores}
+use Rattle.stores.specs.Stores.{Stores}
+use Rattle.stores.specs.declared.Answer.{Answer}
 use Rattle.join.specs.Sweeps.{Swept}
-use Rattle.join.specs.declared.Answer.{Answer}
 use Rattle.history.specs.Machine.{sweep, Machine}
 use Rattle.history.proofs.Held.{TuplesHeld, rows-held-same}
 use Rattle.history.proofs.Kept.{Kept, Done, told-accepted, done-refused}

@@ -18,7 +18,7 @@ use Rattle.part.specs.Part.{counted, recordsIn, tuplesIn, appended}
 use Rattle.partition.specs.Store.{tupleRoom, storedTuples, rowsAt}
 use Rattle.rows.specs.Join.{rowsOfPair, joinOf}
 use Rattle.sweep.specs.Pairs.{meet, pairsOf, joined}
-use Rattle.join.specs.Changes.{inserted}
+use Rattle.insertion.specs.Inserts.{inserted}
 
 -- ---- how a case is written
 

@@ -14,8 +14,9 @@ use Rattle.part.specs.Part.{tuplesIn, rowsIn}
 use Rattle.partition.specs.Store.{tuplePart, rowPart, tuplesAt, rowsAt}
 use Rattle.rows.specs.Join.{joinOf}
 use Rattle.sweep.specs.Pairs.{touches}
-use Rattle.join.specs.Stores.{Stores, fits, sound, Opened}
-use Rattle.join.specs.declared.Answer.{Answer}
+use Rattle.stores.specs.Stores.{Stores, fits, sound}
+use Rattle.stores.specs.declared.Answer.{Answer}
+use Rattle.join.specs.Opening.{Opened}
 use Rattle.history.specs.Machine.{Call, insert, delete, sweep, repartition, Told, Machine, machineAfter}
 use Rattle.history.specs.Runs.{Run, fresh, then}
 

@@ -8,11 +8,11 @@ use Rattle.interval.specs.declared.time.Chronon.{Chronon}
 use Rattle.interval.specs.declared.tuple.Tuple.{Tuple}
 use Rattle.plan.specs.declared.Partitioning.{Partitioning}
 use Rattle.rows.specs.declared.Side.{Side}
-use Rattle.join.specs.Stores.{Stores}
+use Rattle.stores.specs.Stores.{Stores}
+use Rattle.stores.specs.declared.Answer.{Answer}
 use Rattle.join.specs.Changes.{Inserted, Deleted}
 use Rattle.join.specs.Sweeps.{Swept}
 use Rattle.join.specs.Repartitioning.{Repartitioned}
-use Rattle.join.specs.declared.Answer.{Answer}
 use Rattle.history.specs.Machine.{Call, insert, delete, sweep, repartition, Told}
 
 -- one call by the record that stands in its `ensures`, from a plan and stores to a plan and stores, with its answer.

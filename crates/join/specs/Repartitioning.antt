@@ -12,8 +12,8 @@ use Rattle.plan.specs.Plan.{cover, numbers, recutTo}
 use Rattle.plan.specs.declared.Partitioning.{Partitioning}
 use Rattle.part.specs.Part.{counted}
 use Rattle.partition.specs.Store.{tupleRoom, rowRoom, partitionAt}
-use Rattle.join.specs.Stores.{Stores, storeNumber}
-use Rattle.join.specs.declared.Answer.{Answer}
+use Rattle.stores.specs.Stores.{Stores, storeNumber}
+use Rattle.stores.specs.declared.Answer.{Answer}
 
 -- every count word of a store of n partitions of that room is 0
 unfoldable pub emptyStore : ℕ → ℕ → List ℕ → Bool

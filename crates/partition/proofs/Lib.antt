@@ -1,5 +1,4 @@
--- The laws of whole stores; the loops' invariants and the tests of words; the closed cases.
+-- The laws of whole stores; the loops over their partitions; the closed cases.
 pub mod Stores
-pub mod Zeros
 pub mod StoreLoops
 pub mod StoreCases

@@ -1,58 +1,32 @@
--- The loops and tests of `partition::store`: a test of every record, of every partition; soundness by its parts; and that
--- two comparisons say what partition a chronon belongs to.
+-- The partitions of a store, one after the other, and its lengths: a test of every partition; a length that the plan
+-- gives; a partition lent to a writer, and back.
 -- Assumes nothing.
-use mathlib.Core.Bool.{Bool, true, false, _&&_, and-false}
-use mathlib.Core.List.{List, [], _∷_, _++_}
-use mathlib.Core.Path.{_≡_, refl, sym, _∙_, ap, ap₂}
-use Prim.Native.Nat.{ℕ, zero, suc, _+_, _-_, _*_, _≤_, _<_}
-use native.Mathlib.Nat.{sub-zero, zero-mul, mul-le-mul, lt-of-le-of-lt, add-sub-cancel-left}
+use mathlib.Core.Bool.{Bool, true, false, _&&_}
+use mathlib.Core.List.{List, _++_}
+use mathlib.Core.Path.{_≡_, sym, _∙_, ap}
+use Prim.Native.Nat.{ℕ, _+_, _-_, _*_, _≤_, _<_}
+use native.Mathlib.Nat.{sub-zero, mul-le-mul, lt-of-le-of-lt, add-sub-cancel-left}
 use native.Mathlib.Omega.{arith}
-use lib.ListN.{length, getD, take, drop}
-use lib.Dec.{leb, eqb, lit<}
+use lib.ListN.{length, take, drop}
+use lib.Dec.{eqb, lit<}
 use mir.Syntax.{w64}
 use mir.Val.{Fits}
-use borrow.Author.Tests.{le-leb, lt-leb, ne-eqb, eqb-true}
-use Rattle.lists.specs.Members.{all, below, upFrom}
-use Rattle.lists.specs.Words.{partAt, onPart, zeros, recordsOf, recordAt}
-use Rattle.lists.proofs.Parts.{length-part, start-next, start-within}
+use borrow.Author.Tests.{ne-eqb, eqb-true}
 use borrow.Rule.Slice.PartMut.{putMid}
+use Rattle.lists.specs.Members.{all, below, upFrom}
+use Rattle.lists.specs.Words.{partAt, onPart}
+use Rattle.lists.proofs.Parts.{length-part}
 use Rattle.lists.proofs.Choice.{and-left, and-right}
-use Rattle.lists.proofs.Members.{all-cong, all-end, all-next, all-stop}
 use Rattle.lists.proofs.Below.{up-next, up-end}
-use Rattle.lists.proofs.Records.{length-records, record-at}
-use Rattle.interval.specs.Time.{calendarEnd}
-use Rattle.interval.specs.Tuple.{legalTuple, legalRow, to, rowTo}
-use Rattle.interval.specs.declared.tuple.Tuple.{Tuple}
-use Rattle.interval.specs.declared.tuple.Row.{Row}
-use Rattle.plan.specs.Plan.{planNumber, legalPlan, cutsOf, home, startOf}
-use Rattle.part.specs.Part.{roomOf, counted, recordsIn, soundPart}
-use Rattle.partition.specs.Store.{tupleBetween, rowBetween, tupleAtHome, rowAtHome}
+use Rattle.plan.specs.Plan.{planNumber, legalPlan}
 use Rattle.plan.specs.declared.Partitioning.{Partitioning}
-use Rattle.plan.proofs.Homes.{LegalPlan, home-test, test-plan-legal, start-next as cut-after}
+use Rattle.plan.proofs.Homes.{test-plan-legal}
 
--- ---- a test of every record: those from k on decide
+-- ---- a test of every partition: those from i on decide
 
 pub record Turn (answer decides next : Bool) : Type 0 where
   pub fails : answer ≡ false → false ≡ decides
   pub goes : answer ≡ true → decides ≡ next
-
-module _ (ok : List ℕ → Bool) (w n : ℕ) (ws : List ℕ) where
-  pub records-turn : (k : ℕ) (answer : Bool) → k < n → answer ≡ ok (recordAt w k ws)
-      → all ok (recordsOf w n ws) ≡ all ok (drop k (recordsOf w n ws))
-      → Turn answer (all ok (recordsOf w n ws)) (all ok (drop (k + 1) (recordsOf w n ws)))
-  records-turn k answer h e inv =
-      let here : ok (getD (recordsOf w n ws) k []) ≡ answer = ap ok (record-at w n k ws [] h) ∙ sym e in
-      let within : k < length (recordsOf w n ws) = omega (arith, length-records w n ws) in
-      record {
-        fails = λ f. sym (inv ∙ all-stop ok (recordsOf w n ws) k [] within (here ∙ f));
-        goes = λ t. inv ∙ all-next ok (recordsOf w n ws) k [] within (here ∙ t);
-      }
-
-  pub records-end : (k : ℕ) → n ≤ k → all ok (recordsOf w n ws) ≡ all ok (drop k (recordsOf w n ws))
-      → true ≡ all ok (recordsOf w n ws)
-  records-end k h inv = sym (inv ∙ all-end ok (recordsOf w n ws) k (omega (arith, length-records w n ws)))
-
--- ---- a test of every partition: those from i on decide
 
 module _ (f : ℕ → Bool) (n : ℕ) where
   pub below-start : all f (below n) ≡ all f (upFrom 0 (n - 0))
@@ -71,44 +45,6 @@ module _ (f : ℕ → Bool) (n : ℕ) where
   pub below-end : (i : ℕ) → n ≤ i → all f (below n) ≡ all f (upFrom i (n - i)) → true ≡ all f (below n)
   below-end i h inv = sym (inv ∙ ap (all f) (up-end i n h))
 
--- ---- soundness by its parts
-
-module _ (w capacity : ℕ) (ok : List ℕ → Bool) (part : List ℕ) where
-  pub sound-over : capacity < counted part → false ≡ soundPart w capacity ok part
-  unfolding soundPart
-  sound-over h = rw (lt-leb (counted part) capacity h)
-
-  pub sound-bad : counted part ≤ capacity → all ok (recordsIn w part) ≡ false → false ≡ soundPart w capacity ok part
-  unfolding soundPart
-  sound-bad h e = rw (le-leb (counted part) capacity h, e)
-
-  pub sound-by-tail : counted part ≤ capacity → all ok (recordsIn w part) ≡ true
-      → zeros (drop (roomOf w (counted part)) part) ≡ soundPart w capacity ok part
-  unfolding soundPart
-  sound-by-tail h e = rw (le-leb (counted part) capacity h, e)
-
--- the same test of each record, the same soundness
-pub sound-cong : (w capacity : ℕ) (ok ok′ : List ℕ → Bool) (part : List ℕ) → ((ws : List ℕ) → ok ws ≡ ok′ ws)
-    → soundPart w capacity ok part ≡ soundPart w capacity ok′ part
-unfolding soundPart
-sound-cong w capacity ok ok′ part h = rw (all-cong ok ok′ (recordsIn w part) h)
-
--- ---- two comparisons stand for the home
-
-module _ (p : Partitioning) (i first last : ℕ) (legal : LegalPlan p) (within : i < length (cutsOf p))
-    (starts : first ≡ startOf (cutsOf p) i) (ends : last ≡ getD (cutsOf p) i 0) where
-  between-home : (m : ℕ) → (leb first m && leb m last) ≡ eqb (home p m) i
-  unfolding home
-  between-home m = rw (starts, ends) (sym (home-test (cutsOf p) (legal .covered) i m within))
-
-  pub tuple-between-home : (t : Tuple) → tupleBetween first last t ≡ tupleAtHome p i t
-  unfolding tupleBetween tupleAtHome
-  tuple-between-home t = ap (λ (b : Bool). legalTuple t && b) (between-home (to t))
-
-  pub row-between-home : (r : Row) → rowBetween first last r ≡ rowAtHome p i r
-  unfolding rowBetween rowAtHome
-  row-between-home r = ap (λ (b : Bool). legalRow r && b) (between-home (rowTo r))
-
 -- ---- lengths
 
 -- a plan that is not legal gives no length
@@ -120,10 +56,18 @@ no-fit p n rest e h = rw (ne-eqb (planNumber p) 0 (λ z. h (e ∙ z)))
 pub length-fits : (n room : ℕ) → n ≤ 64 → room ≤ 20481 → Fits w64 (n * room)
 length-fits n room h g = record { fits = lt-of-le-of-lt (mul-le-mul h g) (lit< tt) }
 
+-- a length that fits: the plan is legal, and the length is what it gives
+module _ (p : Partitioning) (n size : ℕ) where
+  pub fit-is : (legalPlan p && eqb n (p .count * size)) ≡ true → (planNumber p ≡ 0) × (n ≡ p .count * size)
+  fit-is h = (
+    test-plan-legal p (and-left (legalPlan p) (eqb n (p .count * size)) h),
+    eqb-true n (p .count * size) (and-right (legalPlan p) (eqb n (p .count * size)) h),
+  )
+
 -- ---- a partition lent to a writer, and back
 
 -- the part that the code lends, `&mut store[at..at + room]`
-abbrev lent : ℕ → ℕ → List ℕ → List ℕ
+abbrev pub lent : ℕ → ℕ → List ℕ → List ℕ
 lent at room ws = take (at + room - at) (drop at ws)
 
 pub lent-is : (at room : ℕ) (ws : List ℕ) → lent at room ws ≡ partAt at room ws
@@ -139,48 +83,3 @@ pub put-back : (f : List ℕ → List ℕ) (at room : ℕ) (ws ys : List ℕ) �
 put-back f at room ws ys e =
     rw (e, lent-is at room ws)
     (ap (λ (k : ℕ). take at ws ++ (f (partAt at room ws) ++ drop k (drop at ws))) (add-sub-cancel-left at room))
-
--- ---- going through the partitions: i of them are sound, the next starts at word `at` and at chronon `first`
-
-pub record Checked (f : ℕ → Bool) (cs : List ℕ) (room n first at i : ℕ) : Type 0 where
-  pub within : i ≤ n
-  pub placed : at ≡ i * room
-  pub starts : first ≡ startOf cs i
-  pub rest : all f (below n) ≡ all f (upFrom i (n - i))
-
-module _ (f : ℕ → Bool) (cs : List ℕ) (room n : ℕ) where
-  pub checked-start : Checked f cs room n 0 0 0
-  unfolding startOf
-  checked-start = record { within = omega arith; placed = sym (zero-mul room); starts = refl; rest = below-start f n }
-
-  -- the next partition lies in the store
-  pub checked-room : (first at i : ℕ) → i < n → Checked f cs room n first at i → at + room ≤ n * room
-  checked-room first at i h c = omega (arith, start-within i n room h, c .placed)
-
-  pub checked-next : (first at i last : ℕ) → i < n → last ≡ getD cs i 0
-      → all f (below n) ≡ all f (upFrom (i + 1) (n - (i + 1))) → Checked f cs room n first at i
-      → Checked f cs room n (last + 1) (at + room) (i + 1)
-  checked-next first at i last h e r c = record {
-    within = omega arith;
-    placed = omega (arith, c .placed, start-next i room);
-    starts = ap (λ (m : ℕ). m + 1) e ∙ sym (cut-after cs i);
-    rest = r;
-  }
-
--- what the lent partition's soundness says of partition i
-pub part-answer : (w capacity : ℕ) (ok ok′ : List ℕ → Bool) (ws : List ℕ) (answer : Bool) (at room size i : ℕ)
-    → answer ≡ soundPart w capacity ok (lent at room ws) → ((r : List ℕ) → ok r ≡ ok′ r) → at ≡ i * size → room ≡ size
-    → answer ≡ soundPart w capacity ok′ (partAt (i * size) size ws)
-part-answer w capacity ok ok′ ws answer at room size i e h p q =
-    e
-    ∙ sound-cong w capacity ok ok′ (lent at room ws) h
-    ∙ ap (soundPart w capacity ok′) (lent-is at room ws)
-    ∙ ap₂ (λ (a k : ℕ). soundPart w capacity ok′ (partAt a k ws)) p q
-
--- a length that fits, and one that does not
-module _ (p : Partitioning) (n size : ℕ) where
-  pub fit-is : (legalPlan p && eqb n (p .count * size)) ≡ true → (planNumber p ≡ 0) × (n ≡ p .count * size)
-  fit-is h = (
-    test-plan-legal p (and-left (legalPlan p) (eqb n (p .count * size)) h),
-    eqb-true n (p .count * size) (and-right (legalPlan p) (eqb n (p .count * size)) h),
-  )

@@ -17,7 +17,7 @@ use Rattle.lists.specs.Same.{Same}
 use Rattle.lists.specs.Words.{partAt, onPart}
 use Rattle.lists.proofs.Choice.{bool-cases, and-left, and-right, and-both}
 use Rattle.lists.proofs.Members.{all-map, all-imply, keep-all, keep-none, any-not-all}
-use Rattle.lists.proofs.Gather.{keep-gather, gather-nil, tally-gather}
+use Rattle.lists.proofs.Gather.{keep-gather, gather-nil, tally-gather, all-gather}
 use Rattle.lists.proofs.Tally.{tally-append}
 use Rattle.lists.proofs.Below.{all-below, below-all, gather-one, gather-cong-below, total-more}
 use Rattle.lists.proofs.Parts.{start-within, length-part, length-put, part-put, part-put-other, part-replicate}
@@ -120,6 +120,17 @@ unfolding soundRowPart rowsIn
 rows-at-home p i part h =
     all-map (rowAtHome p i) rowOf (recordsIn rowWidth part)
     ∙ sound-records rowWidth (p .rows) (λ ws. rowAtHome p i (rowOf ws)) part h
+
+-- each tuple stored is legal
+pub stored-legal : (p : Partitioning) (ws : List ℕ) → soundTuples p ws ≡ true
+    → all legalTuple (storedTuples p ws) ≡ true
+unfolding storedTuples tupleAtHome
+stored-legal p ws s =
+    all-gather legalTuple (λ i. tuplesIn (tuplePart p ws i)) (below (p .count))
+    ∙ below-all (λ i. all legalTuple (tuplesIn (tuplePart p ws i))) (p .count)
+    (λ i h. all-imply (tupleAtHome p i) legalTuple (tuplesIn (tuplePart p ws i))
+    (λ t e. and-left (legalTuple t) (eqb (home p (to t)) i) e)
+    (tuples-at-home p i (tuplePart p ws i) (sound-tuples-at p ws s i h)))
 
 -- lists whose members have a home each: those at home i of all of them are those of list i
 module _ {A : Type 0} (at : A → ℕ) (n : ℕ) (parts : ℕ → List A)

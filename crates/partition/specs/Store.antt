@@ -4,7 +4,7 @@ use mathlib.Core.Bool.{Bool, _&&_}
 use mathlib.Core.List.{List, [], _∷_}
 use Prim.Native.Nat.{ℕ, _+_, _*_}
 use lib.ListN.{length}
-use lib.Dec.{leb, eqb}
+use lib.Dec.{eqb}
 use Rattle.lists.specs.Members.{all, keep, gather, below}
 use Rattle.lists.specs.Words.{partAt, onPart}
 use Rattle.interval.specs.Tuple.{tupleWidth, tupleOf, to, legalTuple, rowWidth, rowOf, rowTo, legalRow}
@@ -49,13 +49,6 @@ tupleAtHome p i t = legalTuple t && eqb (home p (to t)) i
 
 unfoldable pub rowAtHome : Partitioning → ℕ → Row → Bool
 rowAtHome p i r = legalRow r && eqb (home p (rowTo r)) i
-
--- the same by two comparisons: for partition i of a legal plan, its first and its last chronon stand for its home
-unfoldable pub tupleBetween : ℕ → ℕ → Tuple → Bool
-tupleBetween first last t = legalTuple t && (leb first (to t) && leb (to t) last)
-
-unfoldable pub rowBetween : ℕ → ℕ → Row → Bool
-rowBetween first last r = legalRow r && (leb first (rowTo r) && leb (rowTo r) last)
 
 -- partition i of a tuple store, of the rows store is sound
 unfoldable pub soundTuplePart : Partitioning → ℕ → List ℕ → Bool

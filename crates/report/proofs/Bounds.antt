@@ -36,7 +36,7 @@ use Rattle.report.proofs.Digits.{digits-length}
 
 -- ---- totals of numbers that are bounded at each number below n
 
-total-most : (f : ℕ → ℕ) (most i n : ℕ) → ((j : ℕ) → j < i + n → f j ≤ most) → total f (upFrom i n) ≤ n * most
+pub total-most : (f : ℕ → ℕ) (most i n : ℕ) → ((j : ℕ) → j < i + n → f j ≤ most) → total f (upFrom i n) ≤ n * most
 total-most f most i zero h = omega arith
 total-most f most i (suc n) h =
     omega (arith, h i (omega arith), total-most f most (suc i) n (λ j l. h j (omega arith)), suc-mul n most)

@@ -47,7 +47,7 @@ fn report_number(p: Partitioning, rows: &[u64], room: usize) -> u64
     if !partition::fits_rows(p, rows.len()) {
         return 4;
     }
-    if !partition::sound_rows(p, rows) {
+    if !soundness::sound_rows(p, rows) {
         return 5;
     }
     if room < 16 + 48 * count_rows(p, rows) as usize {

@@ -3,4 +3,3 @@ pub mod Joins
 pub mod JoinsStored
 pub mod Counting
 pub mod Adding
-pub mod Taking

@@ -15,8 +15,10 @@ use Rattle.part.specs.Part.{counted, soundPart, recordsIn, tuplesIn, rowsIn}
 use Rattle.partition.specs.Store.{fitsTuples, fitsRows, soundTuples, soundRows, soundTuplePart, soundRowPart}
 use Rattle.partition.specs.Store.{storedTuples, rowsAt}
 use Rattle.rows.specs.Join.{madeWith}
-use Rattle.join.specs.Stores.{Stores, stores, fitsAll, lengthsNumber, storeNumber, sound}
-use Rattle.join.specs.Changes.{insertNumber, deleteNumber, overfull, made}
+use Rattle.stores.specs.Stores.{Stores, stores, fitsAll, lengthsNumber, storeNumber, sound}
+use Rattle.insertion.specs.Changes.{made}
+use Rattle.insertion.specs.Inserts.{overfull}
+use Rattle.join.specs.Changes.{insertNumber, deleteNumber}
 use Rattle.lines.specs.declared.Word.the-variants.{DrawIn, SpotOut}
 use Rattle.lines.specs.declared.Line.{Line}
 use Rattle.lines.specs.declared.Line.the-variants.{Lane, Change, Malformed}

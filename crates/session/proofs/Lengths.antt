@@ -22,11 +22,14 @@ use Rattle.partition.specs.Store.{tupleRoom, tuplePart, onPartition}
 use Rattle.partition.proofs.Stores.{on-length, partition-length}
 use Rattle.rows.specs.declared.Side.{Side}
 use Rattle.rows.specs.declared.Side.the-variants.{Outer, Inner}
-use Rattle.join.specs.Stores.{Stores, storeNumber}
-use Rattle.join.specs.Changes.{Checked, inserted, deleted, insertNumber, Inserted, deleteNumber, Deleted}
-use Rattle.join.specs.declared.Answer.{Answer}
+use Rattle.stores.specs.Stores.{Stores, storeNumber}
+use Rattle.stores.specs.declared.Answer.{Answer}
+use Rattle.insertion.specs.Changes.{Checked}
+use Rattle.insertion.specs.Inserts.{inserted}
+use Rattle.insertion.proofs.Sites.{at-within}
+use Rattle.deletion.specs.Deletes.{deleted}
+use Rattle.join.specs.Changes.{insertNumber, Inserted, deleteNumber, Deleted}
 use Rattle.join.proofs.ChangeCalls.{checked-outer, checked-inner}
-use Rattle.join.proofs.Sites.{at-within}
 use Rattle.lines.specs.declared.Word.{Word}
 use Rattle.lines.specs.declared.Word.the-variants.{DrawIn, DrawOut, SpotIn, SpotOut}
 use Rattle.lines.specs.declared.Line.{Line}

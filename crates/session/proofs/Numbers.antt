@@ -3,7 +3,7 @@
 -- In order: the wall fits the plan, so checks 1 to 4 pass; the first check that applies, among given numbers; a lane
 -- line, a change, a line; the theorem (`numbers-met`). It leaves 5, which a sound wall never gets (`change-sound`), and
 -- 12, which needs store 3 to lack a row: that a session's own steps keep its wall sound and its rows right follows from
--- demand 3, of the calls, and is not shown here.
+-- demand 3, of the calls, and is shown above this crate, in `transcript`.
 -- Assumes nothing.
 use mathlib.Core.Bool.{Bool, true, false, not, _&&_, _||_, false≢true}
 use mathlib.Core.List.{List, [], _∷_}
@@ -29,8 +29,11 @@ use Rattle.plan.proofs.Homes.{plan-legal-test}
 use Rattle.partition.specs.Store.{tupleRoom, rowRoom, fitsTuples, fitsRows, storedTuples, storedRows}
 use Rattle.rows.specs.declared.Side.{Side}
 use Rattle.rows.specs.declared.Side.the-variants.{Outer, Inner}
-use Rattle.join.specs.Stores.{Stores, fitsAll, sound, lengthsNumber, openNumber, storeNumber}
-use Rattle.join.specs.Changes.{ownStore, otherStore, made, full, overfull, insertNumber, lacks, deleteNumber}
+use Rattle.stores.specs.Stores.{Stores, fitsAll, sound, lengthsNumber, openNumber, storeNumber}
+use Rattle.insertion.specs.Changes.{made}
+use Rattle.insertion.specs.Inserts.{full, overfull}
+use Rattle.deletion.specs.Deletes.{lacks}
+use Rattle.join.specs.Changes.{ownStore, otherStore, insertNumber, deleteNumber}
 use Rattle.lines.specs.Line.{lineOf}
 use Rattle.lines.specs.declared.Word.{Word}
 use Rattle.lines.specs.declared.Word.the-variants.{DrawIn, DrawOut, SpotIn, SpotOut}
@@ -98,7 +101,7 @@ refuse-ok ok true n z h = h
 refuse-ok ok false n z h = z
 
 -- a number that a test guards
-guarded-ok : (ok : ℕ → Bool) (c : Bool) (k n : ℕ) → ok 0 ≡ true → ok (suc k) ≡ true → (c ≡ true → ok n ≡ true)
+pub guarded-ok : (ok : ℕ → Bool) (c : Bool) (k n : ℕ) → ok 0 ≡ true → ok (suc k) ≡ true → (c ≡ true → ok n ≡ true)
     → ok (firstOf (refuseIf (not c) (suc k) ∷ (n ∷ []))) ≡ true
 guarded-ok ok true k n z h f =
     first-met ok (0 ∷ (n ∷ [])) z (and-both (ok 0) (ok n && true) z (and-both (ok n) true (f refl) refl))
@@ -268,7 +271,7 @@ step-met s Malformed S g y l = refl
 -- ---- every line that a session from `fresh` reads
 
 -- stores as long as roomy ones
-roomy-as : (S S′ : Stores) → SameLong S S′ → Roomy S → Roomy S′
+pub roomy-as : (S S′ : Stores) → SameLong S S′ → Roomy S → Roomy S′
 roomy-as S S′ l y = record {
   outer = omega (arith, l .outer, y .outer);
   inner = omega (arith, l .inner, y .inner);

@@ -13,7 +13,7 @@ use Rattle.lists.specs.Choice.{firstOf}
 use Rattle.interval.specs.declared.tuple.Tuple.{Tuple}
 use Rattle.plan.specs.Plan.{legalPlan}
 use Rattle.partition.specs.Store.{fitsTuples, fitsRows}
-use Rattle.join.specs.Stores.{Stores, fitsAll, lengthsNumber, openNumber, storeNumber}
+use Rattle.stores.specs.Stores.{Stores, fitsAll, lengthsNumber, openNumber, storeNumber}
 use Rattle.join.specs.Changes.{insertNumber, deleteNumber}
 use Rattle.lines.specs.declared.Word.{Word}
 use Rattle.lines.specs.declared.Word.the-variants.{DrawIn, DrawOut, SpotIn, SpotOut}

@@ -15,9 +15,10 @@ use Rattle.plan.specs.Plan.{numbers}
 use Rattle.plan.specs.declared.Partitioning.{Partitioning}
 use Rattle.partition.specs.Store.{tupleRoom, rowRoom}
 use Rattle.rows.specs.declared.Side.the-variants.{Outer, Inner}
-use Rattle.join.specs.Stores.{Stores, stores, openNumber, blank}
+use Rattle.stores.specs.Stores.{Stores, stores, openNumber}
+use Rattle.stores.specs.declared.Answer.{Answer}
+use Rattle.join.specs.Opening.{blank}
 use Rattle.join.specs.Changes.{insertNumber, Inserted, deleteNumber, Deleted}
-use Rattle.join.specs.declared.Answer.{Answer}
 use Rattle.lines.specs.declared.Word.{Word}
 use Rattle.lines.specs.declared.Word.the-variants.{DrawIn, DrawOut, SpotIn, SpotOut}
 use Rattle.lines.specs.declared.Line.{Line}

@@ -7,7 +7,7 @@ ghost use mathlib.Core.Path.{_≡_};
 ghost use Prim.Native.Nat.{min};
 ghost use lib.Dec.{ltb};
 ghost use Rattle.lists.specs.Choice.{pick};
-ghost use Rattle.join.specs.Stores.{stores};
+ghost use Rattle.stores.specs.Stores.{stores};
 ghost use Rattle.lines.specs.Line.{lineOf};
 ghost use Rattle.lines.specs.declared.Line.the-variants.{Lane};
 ghost use Rattle.session.specs.Session.{fresh, planOf, withLane, usedLanes, usedTuples, usedRows};

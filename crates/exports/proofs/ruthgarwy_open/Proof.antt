@@ -1,7 +1,8 @@
 -- `exports::ruthgarwy_open` meets its contract: lengths, then `join::open` with the plan that the words say.
 -- Assumes nothing.
 use mathlib.Core.Path.{_≡_, refl}
-use Rattle.join.specs.Stores.{stores, Opened}
+use Rattle.stores.specs.Stores.{stores}
+use Rattle.join.specs.Opening.{Opened}
 use Rattle.exports.specs.Exports.{planIn, lengthsAre}
 use Rattle.exports.proofs.Exporting.{opened-said}
 use Rattle.exports.proofs.Exporting.{plan-wrong, answer-wrong, lengths-right, exported-refused, exported-called}

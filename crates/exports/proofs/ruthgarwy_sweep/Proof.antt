@@ -1,7 +1,7 @@
 -- `exports::ruthgarwy_sweep` meets its contract: lengths, then `join::sweep` with the plan that the words say.
 -- Assumes nothing.
 use mathlib.Core.Path.{_≡_, refl}
-use Rattle.join.specs.Stores.{stores}
+use Rattle.stores.specs.Stores.{stores}
 use Rattle.join.specs.Sweeps.{Swept}
 use Rattle.exports.specs.Exports.{planIn, lengthsAre}
 use Rattle.exports.proofs.Exporting.{swept-said}

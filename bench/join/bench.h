@@ -1,0 +1,83 @@
+// What the benchmark's parts share: the data of one shape, and the form of a peer.
+#ifndef BENCH_H
+#define BENCH_H
+#include <stddef.h>
+#include <stdint.h>
+
+enum { MOST_LANES = 64, TUPLES = 512, ROWS = 4096 };
+enum { TUPLE_ROOM = 1 + 4 * TUPLES, ROW_ROOM = 1 + 5 * ROWS };
+#define LAST_MINUTE UINT64_C(99999999)
+#define LAST_LABEL UINT64_C(217180147158)
+#define LAST_NUMBER UINT64_C(999999)
+
+typedef struct {
+    uint64_t label, number, first, last;
+} tuple;
+
+typedef struct {
+    uint64_t label, drawing, spot, first, last;
+} row;
+
+// One shape: the lanes' last minutes, the two lists, and rows that stand there before an insert. Each peer gets a copy.
+typedef struct {
+    uint64_t lanes, cuts[MOST_LANES];
+    const tuple *drawings, *spots;
+    size_t drawing_count, spot_count;
+    const row *rows;
+    size_t row_count;
+} shape;
+
+// Rows as a multiset: how many, and the sum of a mix of each, whatever their order.
+typedef struct {
+    uint64_t rows, sum;
+} fingerprint;
+
+enum { DONE = 0, WRONG = 1, TOO_LONG = 2 };
+
+// A way of joining. `open`, `rows` and `close` are not timed. Each of the other four answers DONE, WRONG or TOO_LONG (past
+// the limit of LIMIT_MS milliseconds).
+typedef struct {
+    const char *name;
+    int (*open)(const shape *);
+    int (*join)(uint64_t *pairs);                    // all rows anew; the pairs looked at, 0 where nobody counts them
+    int (*insert)(const tuple *drawing, uint64_t *rows);   // one drawing more, and its rows
+    int (*withdraw)(const tuple *drawing, uint64_t *rows); // that drawing and its rows gone
+    int (*check)(void);                              // all that is stored is read and found legal
+    fingerprint (*rows)(void);
+    void (*close)(void);
+} peer;
+
+#define LIMIT_MS 10000.0
+
+extern const peer library, by_hand, nested_loops, hash_join, sqlite, postgres, postgres_gist;
+
+double now_ms(void);
+void *room(size_t count, size_t size);
+void mix(fingerprint *f, row r);
+// writes a shape's tuples and rows into three stores laid out as document 01 says
+void fill_stores(const shape *s, uint64_t *outer, uint64_t *inner, uint64_t *made);
+fingerprint rows_in_store(uint64_t lanes, const uint64_t *made);
+int legal_tuple(const tuple *t);
+
+// the overlap of two tuples that agree on the label, if there is one
+static inline int pair_row(const tuple *d, const tuple *s, row *r)
+{
+    if (d->label != s->label)
+        return 0;
+    uint64_t first = d->first > s->first ? d->first : s->first, last = d->last < s->last ? d->last : s->last;
+    if (first > last)
+        return 0;
+    *r = (row){d->label, d->number, s->number, first, last};
+    return 1;
+}
+
+static inline int same_row(const row *a, const row *b)
+{
+    return a->label == b->label && a->drawing == b->drawing && a->spot == b->spot && a->first == b->first && a->last == b->last;
+}
+
+static inline int same_tuple(const tuple *a, const tuple *b)
+{
+    return a->label == b->label && a->number == b->number && a->first == b->first && a->last == b->last;
+}
+#endif

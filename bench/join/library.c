@@ -1,0 +1,58 @@
+// The proved calls, from the static library.
+#include <stdlib.h>
+#include "bench.h"
+#include "ruthgarwy.h"
+
+static uint64_t plan[RUTHGARWY_PLAN_WORDS], answer[RUTHGARWY_ANSWER_WORDS];
+static uint64_t *outer, *inner, *made, *outer_cache, *inner_cache;
+static size_t tuple_words, row_words;
+
+static int open_library(const shape *s)
+{
+    plan[0] = s->lanes, plan[1] = TUPLES, plan[2] = ROWS;
+    for (size_t i = 0; i < MOST_LANES; i++)
+        plan[3 + i] = i < s->lanes ? s->cuts[i] : 0;
+    tuple_words = s->lanes * TUPLE_ROOM, row_words = s->lanes * ROW_ROOM;
+    outer = room(tuple_words, 8), inner = room(tuple_words, 8), made = room(row_words, 8);
+    outer_cache = room(tuple_words, 8), inner_cache = room(tuple_words, 8);
+    fill_stores(s, outer, inner, made);
+    return DONE;
+}
+
+static int join_library(uint64_t *pairs)
+{
+    uint64_t number = ruthgarwy_sweep(plan, RUTHGARWY_PLAN_WORDS, outer, tuple_words, inner, tuple_words, made, row_words,
+                                      outer_cache, tuple_words, inner_cache, tuple_words, answer, RUTHGARWY_ANSWER_WORDS);
+    *pairs = answer[2];
+    return number ? WRONG : DONE;
+}
+
+static int insert_library(const tuple *d, uint64_t *rows)
+{
+    uint64_t number = ruthgarwy_insert(plan, RUTHGARWY_PLAN_WORDS, RUTHGARWY_OUTER, d->label, d->number, d->first, d->last, outer,
+                                       tuple_words, inner, tuple_words, made, row_words, answer, RUTHGARWY_ANSWER_WORDS);
+    *rows = answer[1];
+    return number ? WRONG : DONE;
+}
+
+static int withdraw_library(const tuple *d, uint64_t *rows)
+{
+    uint64_t number = ruthgarwy_delete(plan, RUTHGARWY_PLAN_WORDS, RUTHGARWY_OUTER, d->label, d->number, d->first, d->last, outer,
+                                       tuple_words, inner, tuple_words, made, row_words, answer, RUTHGARWY_ANSWER_WORDS);
+    *rows = answer[1];
+    return number ? WRONG : DONE;
+}
+
+// an insert of label 0 is refused with 6, which is given only after check 5 has passed
+static int check_library(void)
+{
+    uint64_t number = ruthgarwy_insert(plan, RUTHGARWY_PLAN_WORDS, RUTHGARWY_OUTER, 0, 0, 0, 0, outer, tuple_words, inner,
+                                       tuple_words, made, row_words, answer, RUTHGARWY_ANSWER_WORDS);
+    return number == 6 ? DONE : WRONG;
+}
+
+static fingerprint rows_library(void) { return rows_in_store(plan[0], made); }
+
+static void close_library(void) { free(outer), free(inner), free(made), free(outer_cache), free(inner_cache); }
+
+const peer library = {"library", open_library, join_library, insert_library, withdraw_library, check_library, rows_library, close_library};

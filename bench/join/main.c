@@ -1,0 +1,471 @@
+// Times the whole join, an insert, a withdrawal and check 5 of the static library beside its peers, on the same data in one
+// run, and prints tables. Shapes after figures 11 to 13 of document 002. Exits 1 if any peer's rows are not the library's.
+#include "bench.h"
+#include <inttypes.h>
+#include <stdio.h>
+#include <stdlib.h>
+#include <string.h>
+#include <time.h>
+
+double now_ms(void)
+{
+    struct timespec t;
+    clock_gettime(CLOCK_MONOTONIC, &t);
+    return (double)t.tv_sec * 1e3 + (double)t.tv_nsec / 1e6;
+}
+
+void *room(size_t count, size_t size)
+{
+    void *p = calloc(count ? count : 1, size);
+    if (!p)
+        exit(2);
+    return p;
+}
+
+void mix(fingerprint *f, row r)
+{
+    const uint64_t w[5] = {r.label, r.drawing, r.spot, r.first, r.last};
+    uint64_t h = 1469598103934665603u;
+    for (int i = 0; i < 5; i++)
+        h = (h ^ w[i]) * 1099511628211u, h ^= h >> 29;
+    f->rows++, f->sum += h;
+}
+
+int legal_tuple(const tuple *t)
+{
+    return 1 <= t->label && t->label <= LAST_LABEL && t->number <= LAST_NUMBER && t->first <= t->last && t->last <= LAST_MINUTE;
+}
+
+static size_t lane_of(const shape *s, uint64_t minute)
+{
+    size_t i = 0;
+    while (minute > s->cuts[i])
+        i++;
+    return i;
+}
+
+// the record goes to the end of its last minute's lane
+static void append(const shape *s, uint64_t *store, size_t lane_room, size_t width, uint64_t capacity, const uint64_t *record)
+{
+    uint64_t *lane = store + lane_of(s, record[width - 1]) * lane_room;
+    if (lane[0] == capacity) {
+        fprintf(stderr, "a lane is full\n");
+        exit(1);
+    }
+    memcpy(lane + 1 + width * lane[0]++, record, width * sizeof *record);
+}
+
+void fill_stores(const shape *s, uint64_t *outer, uint64_t *inner, uint64_t *made)
+{
+    for (size_t a = 0; a < s->drawing_count; a++)
+        append(s, outer, TUPLE_ROOM, 4, TUPLES, (const uint64_t *)(s->drawings + a));
+    for (size_t b = 0; b < s->spot_count; b++)
+        append(s, inner, TUPLE_ROOM, 4, TUPLES, (const uint64_t *)(s->spots + b));
+    for (size_t k = 0; k < s->row_count; k++)
+        append(s, made, ROW_ROOM, 5, ROWS, (const uint64_t *)(s->rows + k));
+}
+
+fingerprint rows_in_store(uint64_t lanes, const uint64_t *made)
+{
+    fingerprint f = {0, 0};
+    for (uint64_t i = 0; i < lanes; i++)
+        for (uint64_t k = 0; k < made[i * ROW_ROOM]; k++) {
+            const uint64_t *w = made + i * ROW_ROOM + 1 + 5 * k;
+            mix(&f, (row){w[0], w[1], w[2], w[3], w[4]});
+        }
+    return f;
+}
+
+// ---- data
+
+static uint64_t seed;
+
+static uint64_t from_to(uint64_t low, uint64_t high)
+{
+    seed = seed * 6364136223846793005u + 1442695040888963407u;
+    return low + (seed >> 20) % (high - low + 1);
+}
+
+typedef struct {
+    uint64_t lanes, side;  // tuples a side
+    uint64_t labels;       // how many labels there are
+    int colliding;         // whether all labels' numbers end in the same 20 bits
+    uint64_t minutes;      // how many minutes the spans of one minute stand on
+    uint64_t long_percent; // the share of tuples that run for half of the calendar
+} kind;
+
+static tuple random_tuple(const kind *k)
+{
+    tuple t;
+    uint64_t label = from_to(1, k->labels);
+    t.label = k->colliding ? 1 + (label << 20) : label;
+    t.number = from_to(0, LAST_NUMBER);
+    if (from_to(1, 100) <= k->long_percent) { // as 002 makes them
+        t.first = from_to(0, LAST_MINUTE / 2);
+        t.last = t.first + LAST_MINUTE / 2;
+    } else
+        t.first = t.last = from_to(0, k->minutes - 1) * (LAST_MINUTE / k->minutes) + LAST_MINUTE / (2 * k->minutes);
+    return t;
+}
+
+static void even_cuts(shape *s)
+{
+    for (uint64_t i = 0; i < s->lanes; i++)
+        s->cuts[i] = (i + 1) * ((LAST_MINUTE + 1) / s->lanes) - 1;
+    s->cuts[s->lanes - 1] = LAST_MINUTE;
+}
+
+static shape make(const kind *k)
+{
+    shape s = {.lanes = k->lanes, .drawing_count = k->side, .spot_count = k->side};
+    tuple *d = room(k->side, sizeof *d), *p = room(k->side, sizeof *p);
+    seed = 1;
+    for (size_t i = 0; i < k->side; i++)
+        d[i] = random_tuple(k), p[i] = random_tuple(k);
+    s.drawings = d, s.spots = p;
+    even_cuts(&s);
+    return s;
+}
+
+// ---- times
+
+enum { MOST_RUNS = 15 };
+#define ENOUGH_MS 1200.0
+
+typedef struct {
+    double at[MOST_RUNS];
+    int runs;
+} times;
+
+static int by_size(const void *a, const void *b)
+{
+    double x = *(const double *)a, y = *(const double *)b;
+    return (x > y) - (x < y);
+}
+
+static double middle(times *t)
+{
+    qsort(t->at, (size_t)t->runs, sizeof *t->at, by_size);
+    return t->at[t->runs / 2];
+}
+
+static const peer *const peers[] = {&library,
+                                    &by_hand,
+                                    &nested_loops,
+                                    &hash_join,
+#ifdef WITH_SQLITE
+                                    &sqlite,
+#endif
+#ifdef WITH_POSTGRES
+                                    &postgres,
+                                    &postgres_gist,
+#endif
+};
+enum { PEERS = sizeof peers / sizeof *peers, COUNTING = 4 };
+
+static void wrong(const char *what, const char *who)
+{
+    printf("\n%s: %s\n", who, what);
+    exit(1);
+}
+
+// a time in milliseconds, or that the limit was passed
+static void cell(double ms)
+{
+    if (ms < 0)
+        printf(" over %.0f |", LIMIT_MS);
+    else
+        printf(ms < 10 ? " %.3f |" : " %.1f |", ms);
+}
+
+static void ratio(double ours, double theirs)
+{
+    if (theirs < 0)
+        printf(" under %.4f |", ours / LIMIT_MS);
+    else
+        printf(ours / theirs < 0.1 ? " %.4f |" : " %.2f |", ours / theirs);
+}
+
+static void ratio_head(const char *what, const char *x)
+{
+    printf("\n| %s: library's time as a part of the peer's | %s", what, x);
+    for (int p = 1; p < PEERS; p++)
+        printf(" | of %s", peers[p]->name);
+    printf(" |\n|---|---|");
+    for (int p = 1; p < PEERS; p++)
+        printf("---|");
+    printf("\n");
+}
+
+typedef struct {
+    const char *x; // what the row's first cell says
+    kind k;
+} point;
+
+// one table of joins, and one of ratios
+static void joins(const char *title, const char *x, const point *points, size_t count)
+{
+    double ms[32][PEERS];
+    printf("\n### %s\n\n| %s", title, x);
+    for (int p = 0; p < COUNTING; p++)
+        if (peers[p] != &by_hand)
+            printf(" | pairs, %s", peers[p]->name);
+    for (int p = 0; p < PEERS; p++)
+        printf(" | ms, %s", peers[p]->name);
+    printf(" | rows |\n|---|---|---|---|");
+    for (int p = 0; p <= PEERS; p++)
+        printf("---|");
+    printf("\n");
+    for (size_t c = 0; c < count; c++) {
+        shape s = make(&points[c].k);
+        fingerprint first = {0, 0};
+        uint64_t pairs[PEERS] = {0};
+        for (int p = 0; p < PEERS; p++) {
+            const peer *who = peers[p];
+            times t = {.runs = 0};
+            if (who->open(&s))
+                wrong("not opened", who->name);
+            int answer = DONE;
+            double spent = 0;
+            for (int run = -1; run < MOST_RUNS && spent < ENOUGH_MS && !answer; run++) {
+                double began = now_ms();
+                answer = who->join(pairs + p);
+                double took = now_ms() - began;
+                if (run >= 0 || took > ENOUGH_MS) // the first one warms up
+                    t.at[t.runs++] = took, spent += took;
+            }
+            if (answer == WRONG)
+                wrong("the join was refused", who->name);
+            ms[c][p] = answer == TOO_LONG ? -1 : middle(&t);
+            if (answer == DONE) {
+                fingerprint f = who->rows();
+                if (!p)
+                    first = f;
+                else if (f.rows != first.rows || f.sum != first.sum)
+                    wrong("its rows are not the library's", who->name);
+            }
+            who->close();
+        }
+        if (pairs[0] != pairs[1])
+            wrong("it compared another number of pairs than the library", by_hand.name);
+        printf("| %s |", points[c].x);
+        for (int p = 0; p < COUNTING; p++)
+            if (peers[p] != &by_hand)
+                printf(" %" PRIu64 " |", pairs[p]);
+        for (int p = 0; p < PEERS; p++)
+            cell(ms[c][p]);
+        printf(" %" PRIu64 " |\n", first.rows);
+        fflush(stdout);
+        free((void *)s.drawings), free((void *)s.spots);
+    }
+    ratio_head("whole join", x);
+    for (size_t c = 0; c < count; c++) {
+        printf("| | %s |", points[c].x);
+        for (int p = 1; p < PEERS; p++)
+            ratio(ms[c][0], ms[c][p]);
+        printf("\n");
+    }
+    fflush(stdout);
+}
+
+// only the library's: lanes and long-lived tuples together, as figure 13
+static void both(const char *title)
+{
+    static const uint64_t lanes[] = {12, 16, 32, 64}, percent[] = {0, 6, 12, 24, 36, 49};
+    printf("\n### %s\n\n| lanes", title);
+    for (size_t b = 0; b < sizeof percent / sizeof *percent; b++)
+        printf(" | pairs, %" PRIu64 " %%", percent[b]);
+    for (size_t b = 0; b < sizeof percent / sizeof *percent; b++)
+        printf(" | ms, %" PRIu64 " %%", percent[b]);
+    printf(" |\n|---|");
+    for (size_t b = 0; b < 2 * sizeof percent / sizeof *percent; b++)
+        printf("---|");
+    printf("\n");
+    for (size_t a = 0; a < sizeof lanes / sizeof *lanes; a++) {
+        uint64_t pairs[8];
+        double ms[8];
+        for (size_t b = 0; b < sizeof percent / sizeof *percent; b++) {
+            kind k = {lanes[a], 3072, 4096, 0, 512, percent[b]};
+            shape s = make(&k);
+            times t = {.runs = 0};
+            library.open(&s);
+            for (int run = -1; run < MOST_RUNS; run++) {
+                double began = now_ms();
+                if (library.join(pairs + b))
+                    wrong("the join was refused", library.name);
+                double took = now_ms() - began;
+                if (run >= 0)
+                    t.at[t.runs++] = took;
+            }
+            ms[b] = middle(&t);
+            library.close();
+            free((void *)s.drawings), free((void *)s.spots);
+        }
+        printf("| %" PRIu64 " |", lanes[a]);
+        for (size_t b = 0; b < sizeof percent / sizeof *percent; b++)
+            printf(" %" PRIu64 " |", pairs[b]);
+        for (size_t b = 0; b < sizeof percent / sizeof *percent; b++)
+            cell(ms[b]);
+        printf("\n");
+    }
+    fflush(stdout);
+}
+
+// the words of three stores, each read once
+__attribute__((noinline)) static uint64_t read_once(const uint64_t *words, size_t count)
+{
+    uint64_t sum = 0;
+    for (size_t i = 0; i < count; i++)
+        sum += words[i];
+    return sum;
+}
+
+static void changes(void)
+{
+    static const struct {
+        const char *name;
+        uint64_t tuples, rows; // in each lane
+        int whole;             // whether the drawing's span begins with the calendar
+    } shapes[] = {{"half full, one minute", 256, 2048, 0},
+                  {"half full, 0 to the last minute of lane 41", 256, 2048, 1},
+                  {"nearly full, one minute", 511, 4050, 0},
+                  {"nearly full, 0 to the last minute of lane 41", 511, 4050, 1}};
+    enum { SHAPES = sizeof shapes / sizeof *shapes, CALLS = 3 };
+    static const char *const calls[CALLS] = {"insert", "withdraw", "check 5"};
+    double ms[SHAPES][CALLS][PEERS], reading[SHAPES];
+    printf("\n### Insert, withdraw and check 5 at the largest plan: 64 lanes, 512 tuples and 4,096 rows a lane\n\n");
+    printf("| call | stores and span");
+    for (int p = 0; p < PEERS; p++)
+        printf(" | ms, %s", peers[p]->name);
+    printf(" | ms, reading the three stores once in C | library / reading | rows |\n|---|---|---|---|---|");
+    for (int p = 0; p < PEERS; p++)
+        printf("---|");
+    printf("\n");
+    for (size_t c = 0; c < SHAPES; c++) {
+        shape s = {.lanes = MOST_LANES};
+        even_cuts(&s);
+        s.drawing_count = s.spot_count = MOST_LANES * shapes[c].tuples, s.row_count = MOST_LANES * shapes[c].rows;
+        tuple *d = room(s.drawing_count, sizeof *d), *q = room(s.spot_count, sizeof *q);
+        row *r = room(s.row_count, sizeof *r);
+        seed = 1;
+        size_t n = 0, m = 0;
+        for (size_t lane = 0; lane < MOST_LANES; lane++) {
+            // 64 labels, and spans of one minute, on one of eight minutes of the lane
+            for (uint64_t k = 0; k < shapes[c].tuples; k++, n++) {
+                uint64_t last = s.cuts[lane] - 1000 * from_to(0, 7);
+                d[n] = (tuple){from_to(1, 64), from_to(100, LAST_NUMBER), last, last};
+                last = s.cuts[lane] - 1000 * from_to(0, 7);
+                q[n] = (tuple){from_to(1, 64), from_to(100, LAST_NUMBER), last, last};
+            }
+            // rows of labels that no tuple has, so that the lanes are as full as the shape says
+            for (uint64_t k = 0; k < shapes[c].rows; k++, m++)
+                r[m] = (row){65 + m, from_to(100, LAST_NUMBER), from_to(100, LAST_NUMBER), s.cuts[lane], s.cuts[lane]};
+        }
+        s.drawings = d, s.spots = q, s.rows = r;
+        tuple one = {32, 77, shapes[c].whole ? 0 : s.cuts[40], s.cuts[40]};
+        uint64_t expected = 0;
+        for (size_t b = 0; b < s.spot_count; b++) {
+            row unused;
+            expected += (uint64_t)pair_row(&one, q + b, &unused);
+        }
+        for (int p = 0; p < PEERS; p++) {
+            const peer *who = peers[p];
+            times t[CALLS] = {{.runs = 0}};
+            if (who->open(&s))
+                wrong("not opened", who->name);
+            fingerprint before = who->rows();
+            for (int run = -1; run < MOST_RUNS; run++) {
+                uint64_t added = 0, removed = 0;
+                double a = now_ms();
+                int x = who->insert(&one, &added);
+                double b = now_ms();
+                int y = who->withdraw(&one, &removed);
+                double e = now_ms();
+                int z = who->check();
+                double f = now_ms();
+                if (x || y || z || added != expected || removed != expected)
+                    wrong("an insert, a withdrawal or a check did not go as expected", who->name);
+                if (run >= 0) {
+                    t[0].at[t[0].runs++] = b - a;
+                    t[1].at[t[1].runs++] = e - b;
+                    t[2].at[t[2].runs++] = f - e;
+                }
+            }
+            fingerprint after = who->rows();
+            if (before.rows != s.row_count || after.rows != before.rows || after.sum != before.sum)
+                wrong("its rows are not those from before", who->name);
+            for (int call = 0; call < CALLS; call++)
+                ms[c][call][p] = middle(t + call);
+            who->close();
+        }
+        // reading: stores filled alike
+        uint64_t *outer = room(MOST_LANES * TUPLE_ROOM, 8), *inner = room(MOST_LANES * TUPLE_ROOM, 8), *made = room(MOST_LANES * ROW_ROOM, 8);
+        fill_stores(&s, outer, inner, made);
+        times t = {.runs = 0};
+        for (int run = -1; run < MOST_RUNS; run++) {
+            double a = now_ms();
+            volatile uint64_t sum = read_once(outer, MOST_LANES * TUPLE_ROOM) + read_once(inner, MOST_LANES * TUPLE_ROOM) + read_once(made, MOST_LANES * ROW_ROOM);
+            double b = now_ms();
+            (void)sum;
+            if (run >= 0)
+                t.at[t.runs++] = b - a;
+        }
+        reading[c] = middle(&t);
+        free(outer), free(inner), free(made);
+        for (int call = 0; call < CALLS; call++) {
+            printf("| %s | %s |", calls[call], shapes[c].name);
+            for (int p = 0; p < PEERS; p++)
+                cell(ms[c][call][p]);
+            cell(reading[c]);
+            printf(" %.2f | %" PRIu64 " |\n", ms[c][call][0] / reading[c], call == 2 ? 0 : expected);
+        }
+        fflush(stdout);
+        free(d), free(q), free(r);
+    }
+    ratio_head("one call", "stores and span");
+    for (size_t c = 0; c < SHAPES; c++)
+        for (int call = 0; call < CALLS; call++) {
+            printf("| %s | %s |", calls[call], shapes[c].name);
+            for (int p = 1; p < PEERS; p++)
+                ratio(ms[c][call][0], ms[c][call][p]);
+            printf("\n");
+        }
+    fflush(stdout);
+}
+
+#define COUNT(a) (sizeof(a) / sizeof *(a))
+
+int main(int count, char **words)
+{
+    static const point lanes512[] = {{"1", {1, 512, 64, 0, 512, 0}},   {"2", {2, 512, 64, 0, 512, 0}},   {"4", {4, 512, 64, 0, 512, 0}},
+                                     {"8", {8, 512, 64, 0, 512, 0}},   {"16", {16, 512, 64, 0, 512, 0}}, {"32", {32, 512, 64, 0, 512, 0}},
+                                     {"64", {64, 512, 64, 0, 512, 0}}};
+    static const point lanes3072[] = {{"8", {8, 3072, 64, 0, 512, 0}}, {"16", {16, 3072, 64, 0, 512, 0}}, {"32", {32, 3072, 64, 0, 512, 0}},
+                                      {"48", {48, 3072, 64, 0, 512, 0}}, {"64", {64, 3072, 64, 0, 512, 0}}};
+    static const point lanes16384[] = {{"48", {48, 16384, 64, 0, 512, 0}}, {"56", {56, 16384, 64, 0, 512, 0}}, {"64", {64, 16384, 64, 0, 512, 0}}};
+    static const point longs[] = {{"0", {64, 16384, 4096, 0, 512, 0}},   {"3", {64, 16384, 4096, 0, 512, 3}},   {"6", {64, 16384, 4096, 0, 512, 6}},
+                                  {"12", {64, 16384, 4096, 0, 512, 12}}, {"24", {64, 16384, 4096, 0, 512, 24}}, {"36", {64, 16384, 4096, 0, 512, 36}},
+                                  {"49", {64, 16384, 4096, 0, 512, 49}}};
+    static const point sides[] = {{"1024", {64, 1024, 1638, 0, 512, 0}},   {"2048", {64, 2048, 1638, 0, 512, 0}},   {"4096", {64, 4096, 1638, 0, 512, 0}},
+                                  {"8192", {64, 8192, 1638, 0, 512, 0}},   {"16384", {64, 16384, 1638, 0, 512, 0}}, {"24576", {64, 24576, 1638, 0, 512, 0}}};
+    static const point labels[] = {{"1", {64, 16384, 1, 0, 4096, 0}},       {"8", {64, 16384, 8, 0, 4096, 0}},         {"64", {64, 16384, 64, 0, 4096, 0}},
+                                   {"512", {64, 16384, 512, 0, 4096, 0}},   {"4096", {64, 16384, 4096, 0, 4096, 0}},   {"65536", {64, 16384, 65536, 0, 4096, 0}},
+                                   {"4096, colliding", {64, 16384, 4096, 1, 4096, 0}}};
+    const char *only = count > 1 ? words[1] : "";
+    if (!*only || !strcmp(only, "lanes")) {
+        joins("Lanes, 512 tuples a side, spans of one minute (after figure 11)", "lanes", lanes512, COUNT(lanes512));
+        joins("Lanes, 3,072 tuples a side, spans of one minute (after figure 11)", "lanes", lanes3072, COUNT(lanes3072));
+        joins("Lanes, 16,384 tuples a side, spans of one minute (after figure 11)", "lanes", lanes16384, COUNT(lanes16384));
+    }
+    if (!*only || !strcmp(only, "long"))
+        joins("Share of long-lived tuples, 64 lanes, 16,384 tuples a side (after figure 12)", "per cent long-lived", longs, COUNT(longs));
+    if (!*only || !strcmp(only, "both"))
+        both("Lanes and share of long-lived tuples, 3,072 tuples a side, the library alone (after figure 13)");
+    if (!*only || !strcmp(only, "sides"))
+        joins("Tuples a side, 64 lanes, spans of one minute", "tuples a side", sides, COUNT(sides));
+    if (!*only || !strcmp(only, "labels"))
+        joins("Labels, 64 lanes, 16,384 tuples a side, spans of one minute", "labels", labels, COUNT(labels));
+    if (!*only || !strcmp(only, "changes"))
+        changes();
+    return 0;
+}

@@ -1,0 +1,3 @@
+-- The laws of delete.
+pub mod Deleting
+pub mod Shrinking

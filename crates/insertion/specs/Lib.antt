@@ -1,0 +1,3 @@
+-- The definitions of this crate, in a reader's order.
+pub mod Changes
+pub mod Inserts

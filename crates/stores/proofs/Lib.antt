@@ -1,0 +1,2 @@
+-- The laws of checks.
+pub mod Checks

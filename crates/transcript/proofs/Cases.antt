@@ -1,0 +1,121 @@
+-- Closed cases that compute, from the definitions that the theorem cites: document 01's example, from the bytes of its
+-- lines to what the machine holds after them, and from that to the bytes of its output; then lines that are refused.
+-- Assumes nothing.
+use mathlib.Core.List.{List, [], _∷_, _++_, map}
+use mathlib.Core.Option.{Option, some}
+use mathlib.Core.Path.{_≡_, refl}
+use Prim.Native.Nat.{ℕ, _-_}
+use Prim.Native.Char.{code}
+use Prim.Native.String.{String, [] as []ₛ, _∷_ as _∷ₛ_}
+use lib.ListN.{length, replicate}
+use Rattle.interval.specs.Time.{span, overlap}
+use Rattle.interval.specs.Label.{rank, isLetter, isLabel, labelNumber, lettersOf}
+use Rattle.interval.specs.Tuple.{sameInterval, sameTuple}
+use Rattle.interval.specs.declared.tuple.Tuple.{Tuple}
+use Rattle.plan.specs.Plan.{cutsOf, homeOf, home}
+use Rattle.plan.specs.declared.Partitioning.{Partitioning}
+use Rattle.partition.specs.Store.{rowsAt}
+use Rattle.rows.specs.Join.{rowsOfPair, joinOf}
+use Rattle.history.specs.Machine.{Told, Machine, machineAfter}
+use Rattle.lines.specs.Fields.{isNumber, valueOf, digitsOf}
+use Rattle.lines.specs.Line.{laneOf, changeOf, worded, formOf, lineOf}
+use Rattle.report.specs.Order.{before}
+use Rattle.report.specs.Text.{rowLine, countLine}
+use Rattle.transcript.specs.Transcript.{heard}
+use Rattle.transcript.specs.Rows.{putRow, sortRows, laneLines, printedRows}
+
+-- ---- how a case is written
+
+abbrev bytes : String → List ℕ
+bytes []ₛ = []
+bytes (c ∷ₛ s) = code c ∷ bytes s
+
+-- a line and the number that it got
+pub record Got : Type 0 where
+  pub line : String
+  pub number : ℕ
+
+abbrev got : String → ℕ → Got
+got l n = record { line = l; number = n }
+
+-- what the machine was told of lines, the first line first
+abbrev toldOf : List Got → List Told → List Told
+toldOf [] ts = ts
+toldOf (g ∷ gs) ts = toldOf gs (heard (lineOf (bytes (g .line))) (g .number) ts)
+
+abbrev plan : ℕ → List ℕ → Partitioning
+plan n cuts = record {
+  count = n;
+  lasts = map (λ (m : ℕ). record { 0 = m }) (cuts ++ replicate (64 - length cuts) 0);
+  tuples = 32;
+  rows = 64;
+}
+
+abbrev three : Partitioning
+three = plan 3 (34 ∷ 40 ∷ 99999999 ∷ [])
+
+abbrev tuple : ℕ → ℕ → ℕ → ℕ → Tuple
+tuple l n a b = record { label = l; item = n; valid = span a b }
+
+abbrev holds : List Tuple → List Tuple → Option Machine
+holds ds ss = some (record { plan = three; outer = ds; inner = ss })
+
+-- ---- document 01's example
+
+abbrev example : List Got
+example =
+    got "lane,34" 0
+    ∷ got "lane,40" 0
+    ∷ got "lane,99999999" 0
+    ∷ got "drawin,AL,10,30,31" 0
+    ∷ got "drawin,AL,11,32,32" 0
+    ∷ got "drawin,AL,10,33,40" 0
+    ∷ got "drawin,AL,11,41,48" 0
+    ∷ got "spotin,AL,1,30,35" 0
+    ∷ got "spotin,AL,2,36,48" 0
+    ∷ []
+
+abbrev drawings : List Tuple
+drawings = tuple 38 11 41 48 ∷ tuple 38 10 33 40 ∷ tuple 38 11 32 32 ∷ tuple 38 10 30 31 ∷ []
+
+abbrev spots : List Tuple
+spots = tuple 38 2 36 48 ∷ tuple 38 1 30 35 ∷ []
+
+example-told : machineAfter three (toldOf example []) ≡ holds drawings spots
+unfolding isNumber valueOf rank isLetter isLabel labelNumber laneOf changeOf worded formOf lineOf
+example-told = refl
+
+abbrev output : List ℕ
+output =
+    bytes "rows,5\n"
+    ++ bytes "1,AL,10,1,30,31\n"
+    ++ bytes "1,AL,11,1,32,32\n"
+    ++ bytes "2,AL,10,1,33,35\n"
+    ++ bytes "2,AL,10,2,36,40\n"
+    ++ bytes "3,AL,11,2,41,48\n"
+
+example-printed : printedRows three (joinOf drawings spots) ≡ output
+unfolding printedRows laneLines sortRows putRow before rowLine countLine digitsOf lettersOf overlap rowsOfPair joinOf rowsAt home homeOf cutsOf
+example-printed = refl
+
+-- ---- refused lines
+
+-- a change before the plan is complete, a lane that does not rise, no line of the form; then a drawing inserted twice
+-- and withdrawn once, and a withdrawal that finds no such spot
+abbrev mixed : List Got
+mixed =
+    got "drawin,AL,10,30,31" 16
+    ∷ got "lane,34" 0
+    ∷ got "lane,34" 2
+    ∷ got "lane,40" 0
+    ∷ got "lane" 15
+    ∷ got "lane,99999999" 0
+    ∷ got "drawin,AL,10,30,31" 0
+    ∷ got "drawin,AL,10,30,31" 0
+    ∷ got "drawout,AL,10,30,31" 0
+    ∷ got "spotout,AL,1,30,35" 11
+    ∷ []
+
+mixed-told : machineAfter three (toldOf mixed []) ≡ holds (tuple 38 10 30 31 ∷ []) []
+unfolding isNumber valueOf rank isLetter isLabel labelNumber laneOf changeOf worded formOf lineOf sameInterval sameTuple
+mixed-told = refl

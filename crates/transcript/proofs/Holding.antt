@@ -1,0 +1,215 @@
+-- What every line keeps (`Holding`): before the plan is complete the machine was told of no accepted call; after that
+-- the wall holds what the machine holds. In order: at the start; a line that is refused, or tells nothing; a change; a
+-- lane line; every transcript (`holding`).
+-- Assumes nothing.
+use mathlib.Core.Bool.{true, false, not, true≢false, false≢true}
+use mathlib.Core.List.{List, [], _∷_}
+use mathlib.Core.Logic.{⊎-elim}
+use mathlib.Core.Option.{Option, some}
+use mathlib.Core.Path.{_≡_, refl, sym, _∙_, ap}
+use Prim.Native.Nat.{ℕ}
+use native.Mathlib.Omega.{arith}
+use lib.Dec.{eqb}
+use borrow.Author.Tests.{eqb-true, eqb-false, eq-eqb, not-false}
+use Rattle.lists.specs.Choice.{pick, refuseIf}
+use Rattle.lists.proofs.Choice.{bool-cases, first-none, refuse-none, pick-true}
+use Rattle.interval.specs.Time.{calendarEnd}
+use Rattle.interval.specs.declared.time.Chronon.{Chronon}
+use Rattle.interval.specs.declared.tuple.Tuple.{Tuple}
+use Rattle.plan.specs.declared.Partitioning.{Partitioning}
+use Rattle.stores.specs.Stores.{Stores, openNumber}
+use Rattle.join.specs.Opening.{Opened}
+use Rattle.stores.specs.declared.Answer.{Answer}
+use Rattle.history.specs.Machine.{Call, Told, Machine, told, machineAfter}
+use Rattle.history.specs.Runs.{Step, inserted, deleted}
+use Rattle.history.specs.KeptCurrent.{Untouched, Owed}
+use Rattle.history.proofs.Kept.{Kept, Done, told-refused}
+use Rattle.history.proofs.Current.{first, opened-kept, step-done, machine-next}
+use Rattle.lines.specs.Line.{lineOf}
+use Rattle.lines.specs.declared.Word.{Word}
+use Rattle.lines.specs.declared.Word.the-variants.{DrawIn, DrawOut, SpotIn, SpotOut}
+use Rattle.lines.specs.declared.Line.{Line}
+use Rattle.lines.specs.declared.Line.the-variants.{Lane, Change, Malformed}
+use Rattle.session.specs.Session.{fresh, planOf, withLane, wallOf, laneCheck, laneNumber, Called}
+use Rattle.session.specs.Session.{changeNumber, WallChanged, LaneTaken, SteppedBy}
+use Rattle.session.specs.declared.Session.{Session}
+use Rattle.session.specs.declared.Stepped.{Stepped}
+use Rattle.session.proofs.Lanes.{lane-passed}
+use Rattle.session.proofs.Steps.{after-accepted}
+use Rattle.session.proofs.Reached.{Reached, Good, good-with, reached-good, plan-legal}
+use Rattle.session.proofs.Reached.{begun as reached-start, then as reached-next}
+use Rattle.transcript.specs.Transcript.{callOf, heard, Transcript, begun, then}
+
+pub record Holding (ts : List Told) (s : Session) (S : Stores) : Type 0 where
+  -- of whatever plan, the machine is still empty
+  pub early : s .complete ≡ false → (p : Partitioning) → machineAfter p ts ≡ some (first p)
+  -- the machine that began with the plan has not failed, and the wall holds what it holds
+  pub late : s .complete ≡ true
+      → (m : Machine) × (machineAfter (planOf s) ts ≡ some m) × Kept m (planOf s) (wallOf s S)
+
+holding-fresh : (S : Stores) → Holding [] fresh S
+holding-fresh S = record { early = λ e p. refl; late = λ e. absurd (false≢true e) }
+
+-- ---- a line that is refused, and tells nothing
+
+holding-same : (ts : List Told) (s s′ : Session) (S S′ : Stores) → Holding ts s S → (s′ ≡ s) × (S′ ≡ S)
+    → Holding ts s′ S′
+holding-same ts s s′ S S′ h e = rw (e .0, e .1) h
+
+-- ---- a change
+
+-- the machine is told of a refused call
+holding-told : (c : Call) (n : ℕ) (ts : List Told) (s : Session) (S : Stores) → (n ≡ 0 → ⊥) → Holding ts s S
+    → Holding (record { call = c; number = n } ∷ ts) s S
+holding-told c n ts s S ne h = record {
+  early = λ e p. machine-next p _ ts (first p) (first p) (h .early e p) (told-refused c n (first p) ne);
+  late = λ e.
+      let k = h .late e in
+      (k .0, machine-next (planOf s) _ ts (k .0) (k .0) (k .1) (told-refused c n (k .0) ne), k .2);
+}
+
+-- the call that a word asks for
+called-step : (w : Word) (p : Partitioning) (t : Tuple) (S S′ : Stores) (a : Answer) → Called w p t S S′ a
+    → Step p S (callOf w t) a p S′
+called-step DrawIn p t S S′ a h = inserted h
+called-step DrawOut p t S S′ a h = deleted h
+called-step SpotIn p t S S′ a h = inserted h
+called-step SpotOut p t S S′ a h = deleted h
+
+-- what is owed of it
+owed-frame : (w : Word) (t : Tuple) (p p′ : Partitioning) (s s′ : Stores) (n : ℕ) (after : Option Machine)
+    → Owed p s (callOf w t) n p′ s′ after → n ≡ 0 → Untouched p t (s .rows) (s′ .rows)
+owed-frame DrawIn t p p′ s s′ n after o = o
+owed-frame DrawOut t p p′ s s′ n after o = o
+owed-frame SpotIn t p p′ s s′ n after o = o
+owed-frame SpotOut t p p′ s s′ n after o = o
+
+module _ (s : Session) (w : Word) (t : Tuple) (S S′ : Stores) (ts : List Told) (h : Holding ts s S) where
+  -- an accepted one comes after the plan is complete
+  pub change-complete : changeNumber s w t S ≡ 0 → s .complete ≡ true
+  unfolding changeNumber
+  change-complete z =
+      not-false (s .complete)
+      (refuse-none (not (s .complete)) 15 (first-none (refuseIf (not (s .complete)) 16) _ z .0))
+
+  -- and is one call of demand 3
+  module _ (c : WallChanged s w t S S′) (e : s .complete ≡ true) where
+    change-done : Done (h .late e .0) (planOf s) (wallOf s S) (callOf w t) (c .answer .number) (planOf s) (wallOf s S′)
+    change-done =
+        let k = h .late e in
+        step-done (k .0) (k .2) (called-step w (planOf s) t (wallOf s S) (wallOf s S′) (c .answer) (c .wall))
+
+    change-kept : (n : ℕ) → n ≡ 0
+        → (m : Machine) × (machineAfter (planOf s) (record { call = callOf w t; number = n } ∷ ts) ≡ some m)
+        × Kept m (planOf s) (wallOf s S′)
+    change-kept n z =
+        let k = h .late e in
+        let same : n ≡ c .answer .number = z ∙ sym (c .number) in (
+          change-done .after,
+          machine-next (planOf s) _ ts (k .0) (change-done .after) (k .1)
+              (ap (λ (i : ℕ). told (record { call = callOf w t; number = i }) (k .0)) same ∙ change-done .machine),
+          change-done .kept,
+        )
+
+    pub change-frame : Untouched (planOf s) t (wallOf s S .rows) (wallOf s S′ .rows)
+    change-frame = owed-frame w t (planOf s) (planOf s) (wallOf s S) (wallOf s S′) _ _ (change-done .owed) (c .number)
+
+  holding-change : (r : Stepped) → SteppedBy s (Change w t) S S′ r
+      → Holding (record { call = callOf w t; number = r .number } ∷ ts) (r .session) S′
+  holding-change r b = ⊎-elim accepted refused (bool-cases (eqb (r .number) 0))
+    where
+      Goal : Type 0
+      Goal = Holding (record { call = callOf w t; number = r .number } ∷ ts) (r .session) S′
+
+      accepted : eqb (r .number) 0 ≡ true → Goal
+      accepted e =
+          let z = eqb-true (r .number) 0 e in
+          let n = sym (b .number) ∙ z in
+          let is : r .session ≡ s = b .session ∙ after-accepted s (Change w t) S n in
+          rw is
+          (record {
+            early = λ u. absurd (true≢false (sym (change-complete n) ∙ u));
+            late = λ c. change-kept (b .accepted z) c (r .number) z;
+          })
+
+      refused : eqb (r .number) 0 ≡ false → Goal
+      refused e =
+          let ne = eqb-false (r .number) 0 e in
+          holding-same _ s (r .session) S S′ (holding-told (callOf w t) (r .number) ts s S ne h) (b .refused ne)
+
+-- ---- a lane line
+
+module _ (s : Session) (m : Chronon) (S S′ : Stores) (ts : List Told) (g : Good s) (h : Holding ts s S) where
+  -- accepted, and completing the plan: the wall is opened
+  module _ (z : laneNumber s m S ≡ 0) (taken : LaneTaken s m S S′) where
+    checked : laneCheck s (m .0) ≡ 0
+    unfolding laneNumber
+    checked = first-none (laneCheck s (m .0)) _ z .0
+
+    after-good : Good (withLane s m)
+    after-good = let p = lane-passed s (m .0) checked in good-with s m g (p .1) (p .0)
+
+    opens : m .0 ≡ calendarEnd → openNumber (planOf (withLane s m)) (wallOf (withLane s m) S) ≡ 0
+    unfolding laneNumber
+    opens e =
+        let n = openNumber (planOf (withLane s m)) (wallOf (withLane s m) S) in
+        sym (pick-true (eqb (m .0) calendarEnd) n 0 (eq-eqb (m .0) calendarEnd e))
+        ∙ first-none (pick (eqb (m .0) calendarEnd) n 0) [] (first-none (laneCheck s (m .0)) _ z .1) .0
+
+    blank-kept : m .0 ≡ calendarEnd
+        → Kept (first (planOf (withLane s m))) (planOf (withLane s m)) (wallOf (withLane s m) S′)
+    blank-kept e =
+        let v = withLane s m in
+        let a : Answer = record { number = 0; changed = 0; examined = 0 } in
+        let o : Opened (planOf v) (wallOf v S) (wallOf v S′) a = record {
+          number = sym (opens e);
+          changed = refl;
+          examined = refl;
+          refused = λ ne. absurd (ne refl);
+          accepted = λ q. taken .completing e .wall;
+        } in
+        opened-kept (planOf v) (after-good .places) (plan-legal v after-good (eq-eqb (m .0) calendarEnd e)) (wallOf v S)
+        (wallOf v S′) a o refl
+
+    holding-taken : Holding ts (withLane s m) S′
+    holding-taken =
+        let p = planOf (withLane s m) in
+        let before = h .early (lane-passed s (m .0) checked .0) in
+        record {
+          early = λ u. before;
+          late = λ c. (first p, before p, blank-kept (eqb-true (m .0) calendarEnd c));
+        }
+
+  holding-lane : (r : Stepped) → SteppedBy s (Lane m) S S′ r → Holding ts (r .session) S′
+  holding-lane r b = ⊎-elim accepted refused (bool-cases (eqb (r .number) 0))
+    where
+      accepted : eqb (r .number) 0 ≡ true → Holding ts (r .session) S′
+      accepted e =
+          let z = eqb-true (r .number) 0 e in
+          let n = sym (b .number) ∙ z in
+          let is : r .session ≡ withLane s m = b .session ∙ after-accepted s (Lane m) S n in
+          rw is (holding-taken n (b .accepted z))
+
+      refused : eqb (r .number) 0 ≡ false → Holding ts (r .session) S′
+      refused e = holding-same ts s (r .session) S S′ h (b .refused (eqb-false (r .number) 0 e))
+
+-- ---- every transcript
+
+holding-step : (s : Session) (line : Line) (S S′ : Stores) (ts : List Told) (r : Stepped) → Good s → Holding ts s S
+    → SteppedBy s line S S′ r → Holding (heard line (r .number) ts) (r .session) S′
+holding-step s (Lane m) S S′ ts r g h b = holding-lane s m S S′ ts g h r b
+holding-step s (Change w t) S S′ ts r g h b = holding-change s w t S S′ ts h r b
+holding-step s Malformed S S′ ts r g h b =
+    holding-same ts s (r .session) S S′ h (b .refused (λ z. absurd (omega (arith, b .number))))
+
+-- the session and the stores are among those that steps reach
+pub reached : {S₀ : Stores} {ns : List ℕ} {ts : List Told} {s : Session} {S : Stores} → Transcript S₀ ns ts s S
+    → Reached S₀ s S
+reached begun = reached-start
+reached (then bytes x b) = reached-next (reached x) b
+
+pub holding : {S₀ : Stores} {ns : List ℕ} {ts : List Told} {s : Session} {S : Stores} → Transcript S₀ ns ts s S
+    → Holding ts s S
+holding {S₀ = S₀} begun = holding-fresh S₀
+holding (then {ts = ts} {s = s} {S = S} {S′ = S′} {r = r} bytes x b) =
+    holding-step s (lineOf bytes) S S′ ts r (reached-good (reached x)) (holding x) b

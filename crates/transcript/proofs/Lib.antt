@@ -1,0 +1,10 @@
+-- The proof: a wall that holds what the machine holds never gives 12; what every line keeps; the numbers that lines
+-- get; the report, that it is not refused and what it prints; the theorem; closed cases of the definitions.
+pub mod Lacking
+pub mod Holding
+pub mod Numbers
+pub mod Reported
+pub mod Sorting
+pub mod Printing
+pub mod Sessions
+pub mod Cases
