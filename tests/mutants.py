@@ -46,12 +46,12 @@ EDITS = [
         '        }\n        j += 1;',
     ),
     # what is taken out
-    ('rows/take.rt', 'if stands < goes {', 'if stands < 1 {'),
-    ('rows/take.rt', 'if stands < goes {', 'if stands <= goes {'),
-    ('rows/take.rt', 'if stands < goes {', 'if false {'),
-    ('rows/take.rt', 'partition::remove_row(rows, size, PartitionIndex(i), place);', ''),
+    ('removal/lib.rt', 'if stands < goes {', 'if stands < 1 {'),
+    ('removal/lib.rt', 'if stands < goes {', 'if stands <= goes {'),
+    ('removal/lib.rt', 'if stands < goes {', 'if false {'),
+    ('removal/lib.rt', 'partition::remove_row(rows, size, PartitionIndex(i), place);', ''),
     (
-        'rows/take.rt',
+        'removal/lib.rt',
         'partition::remove_row(rows, size, PartitionIndex(i), place);',
         'let mut place = place;\n'
         'while (place as u64) < part::count(partition::partition(rows, size, PartitionIndex(i))) {\n'
@@ -60,7 +60,7 @@ EDITS = [
         '}',
     ),
     (
-        'rows/take.rt',
+        'removal/lib.rt',
         'partition::remove_row(rows, size, PartitionIndex(i), place);',
         'partition::remove_row(rows, size, PartitionIndex(i), 0);',
     ),
@@ -83,11 +83,11 @@ EDITS = [
     ('plan/lib.rt', 'if 512 < p.tuples {', 'if 513 < p.tuples {'),
     ('plan/lib.rt', 'if 4096 < p.rows {', 'if 4095 < p.rows {'),
     ('plan/lib.rt', 'if m.0 <= last.0 {', 'if m.0 < last.0 {'),
-    ('partition/lib.rt', 'zeros_from(part, 1 + 4 * n)', 'true'),
-    ('partition/lib.rt', 'zeros_from(part, 1 + 5 * n)', 'true'),
-    ('partition/lib.rt', 'zeros_one_by_one(words, i)', 'true'),
-    ('partition/lib.rt', 'if t.valid.last.0 < first {', 'if false {'),
-    ('partition/lib.rt', 'row.valid.last.0 <= last', 'true'),
+    ('soundness/lib.rt', 'zeros_from(part, 1 + 4 * n)', 'true'),
+    ('soundness/lib.rt', 'zeros_from(part, 1 + 5 * n)', 'true'),
+    ('soundness/lib.rt', 'zeros_one_by_one(words, i)', 'true'),
+    ('soundness/lib.rt', 'if t.valid.last.0 < first {', 'if false {'),
+    ('soundness/lib.rt', 'row.valid.last.0 <= last', 'true'),
     ('partition/lib.rt', 'len == p.count as usize * tuple_room(p)', 'p.count as usize * tuple_room(p) <= len'),
     ('partition/lib.rt', 'len == p.count as usize * row_room(p)', 'len <= p.count as usize * row_room(p)'),
     ('interval/tuple.rt', 'if LABEL_END < label {', 'if LABEL_END <= label {'),
@@ -97,39 +97,39 @@ EDITS = [
     ('interval/tuple.rt', 'if a.item != b.item {', 'if false {'),
     # the calls: what they do
     (
-        'join/lib.rt',
-        'if full != 0 {\n        return refused(full);\n    }\n    insert_rows(',
-        'if true {\n        return refused(full);\n    }\n    insert_rows(',
+        'insertion/lib.rt',
+        'if full != 0 {\n        return stores::refused(full);\n    }\n    insert_rows(',
+        'if true {\n        return stores::refused(full);\n    }\n    insert_rows(',
     ),
     (
-        'join/lib.rt',
+        'deletion/lib.rt',
         'if missing != 0 {',
         'if true {',
     ),
-    ('join/lib.rt', 'partition::append_tuple(own, room, at, t);', ''),
-    ('join/lib.rt', 'partition::append_tuple(own, room, at, t);', 'partition::append_tuple(own, room, low, t);'),
-    ('join/lib.rt', 'rows::add::add_rows(side, t, other, room, p.count, low.0, at.0, rows, size);', ''),
+    ('insertion/lib.rt', 'partition::append_tuple(own, room, at, t);', ''),
+    ('insertion/lib.rt', 'partition::append_tuple(own, room, at, t);', 'partition::append_tuple(own, room, low, t);'),
+    ('insertion/lib.rt', 'rows::add::add_rows(side, t, other, room, p.count, low.0, at.0, rows, size);', ''),
     (
-        'join/lib.rt',
+        'insertion/lib.rt',
         'rows::add::add_rows(side, t, other, room, p.count, low.0, at.0, rows, size);',
         'rows::add::add_rows(side, t, other, room, p.count, at.0, at.0, rows, size);',
     ),
-    ('join/lib.rt', 'partition::remove_tuple(own, room, at, place);', 'partition::remove_tuple(own, room, at, 0);'),
-    ('join/lib.rt', 'rows::take::take_rows(side, t, other, room, p.count, low.0, at.0, rows, size);', ''),
+    ('deletion/lib.rt', 'partition::remove_tuple(own, room, at, place);', 'partition::remove_tuple(own, room, at, 0);'),
+    ('deletion/lib.rt', 'removal::take_rows(side, t, other, room, p.count, low.0, at.0, rows, size);', ''),
     (
-        'join/lib.rt',
-        'rows::take::take_rows(side, t, other, room, p.count, low.0, at.0, rows, size);',
-        'rows::take::take_rows(side, t, other, room, p.count, at.0, at.0, rows, size);',
+        'deletion/lib.rt',
+        'removal::take_rows(side, t, other, room, p.count, low.0, at.0, rows, size);',
+        'removal::take_rows(side, t, other, room, p.count, at.0, at.0, rows, size);',
     ),
     (
         'join/lib.rt',
-        'Side::Inner => insert_into(p, side, t, inner, outer, rows),',
-        'Side::Inner => insert_into(p, side, t, outer, inner, rows),',
+        'Side::Inner => insertion::insert_into(p, side, t, inner, outer, rows),',
+        'Side::Inner => insertion::insert_into(p, side, t, outer, inner, rows),',
     ),
     (
         'join/lib.rt',
-        'Side::Inner => delete_from(p, side, t, inner, outer, rows),',
-        'Side::Inner => delete_from(p, Side::Outer, t, inner, outer, rows),',
+        'Side::Inner => deletion::delete_from(p, side, t, inner, outer, rows),',
+        'Side::Inner => deletion::delete_from(p, Side::Outer, t, inner, outer, rows),',
     ),
     ('join/lib.rt', 'part::clear(inner);', ''),
     # the sweep: what it carries down, which tuples it joins, and what it counts
@@ -176,13 +176,13 @@ EDITS = [
     ),
     (
         'join/lib.rt',
-        'if tight != 0 {\n        return refused(tight);',
-        'if tight != 0 {\n        part::clear(rcache);\n        return refused(tight);',
+        'if tight != 0 {\n        return stores::refused(tight);',
+        'if tight != 0 {\n        part::clear(rcache);\n        return stores::refused(tight);',
     ),
     (
         'join/lib.rt',
-        'if tight != 0 {\n        return refused(tight);',
-        'if tight != 0 {\n        part::clear(rows);\n        return refused(tight);',
+        'if tight != 0 {\n        return stores::refused(tight);',
+        'if tight != 0 {\n        part::clear(rows);\n        return stores::refused(tight);',
     ),
     # the repartition
     ('join/lib.rt', 'plan: plan::recut(p, new),', 'plan: p,'),
@@ -194,8 +194,8 @@ EDITS = [
     ('join/lib.rt', 'if !is_empty(inner, room, p.count) {', 'if false {'),
     (
         'join/lib.rt',
-        'if kept != 0 {\n        return NewPlan {\n            answer: refused(kept),\n            plan: p,',
-        'if kept != 0 {\n        return NewPlan {\n            answer: refused(kept),\n'
+        'if kept != 0 {\n        return NewPlan {\n            answer: stores::refused(kept),\n            plan: p,',
+        'if kept != 0 {\n        return NewPlan {\n            answer: stores::refused(kept),\n'
         '            plan: plan::recut(p, new),',
     ),
     (
@@ -206,68 +206,69 @@ EDITS = [
     ),
     # the calls: a refusal that writes, and rows that are put in another order in lanes that are not concerned
     (
-        'join/lib.rt',
-        'if full != 0 {\n        return refused(full);\n    }\n    insert_rows(',
+        'insertion/lib.rt',
+        'if full != 0 {\n        return stores::refused(full);\n    }\n    insert_rows(',
         'if full != 0 {\n        if full == 10 {\n            partition::append_tuple(own, '
         'partition::tuple_room(p), plan::home(p, t.valid.last), t);\n        }\n'
-        '        return refused(full);\n    }\n    insert_rows(',
+        '        return stores::refused(full);\n    }\n    insert_rows(',
     ),
     (
-        'join/lib.rt',
+        'insertion/lib.rt',
         'partition::append_tuple(own, room, at, t);',
         'partition::append_tuple(own, room, at, t);\n'
         'if rows[0] > 1 && at.0 > 0 && low.0 > 0 {\n    for f in 1..6 {\n        rows.swap(f, f + 5);\n    }\n}',
     ),
     # the calls: their counts
-    ('join/lib.rt', 'changed: 0,', 'changed: number,'),
+    ('stores/lib.rt', 'changed: 0,', 'changed: number,'),
     (
-        'join/lib.rt',
+        'insertion/lib.rt',
         'let changed = rows::count::matches_from(side, t, other, room, low.0, p.count);',
         'let changed = rows::count::matches_from(side, t, other, room, at.0, p.count);',
     ),
     (
-        'join/lib.rt',
+        'insertion/lib.rt',
         'let examined = rows::count::examined_from(other, room, low.0, p.count);',
         'let examined = rows::count::examined_from(other, room, at.0, p.count);',
     ),
     (
-        'join/lib.rt',
+        'deletion/lib.rt',
         'let looked = rows::count::examined_from(other, room, low.0, p.count);',
         'let looked = rows::count::examined_from(other, room, 0, p.count);',
     ),
-    ('join/lib.rt', 'changed: removed,', 'changed: 0,'),
+    ('deletion/lib.rt', 'changed: removed,', 'changed: 0,'),
     # the calls: their numbers, and which check comes first
-    ('join/lib.rt', 'if p.tuples <= held {', 'if p.tuples < held + 2 {'),
-    ('join/lib.rt', '        return 9;', '        return 10;'),
-    ('join/lib.rt', '        return 11;', '        return 12;'),
+    ('insertion/lib.rt', 'if p.tuples <= held {', 'if p.tuples < held + 2 {'),
+    ('insertion/lib.rt', '        return 9;', '        return 10;'),
+    ('deletion/lib.rt', '        return 11;', '        return 12;'),
     (
-        'join/lib.rt',
+        'deletion/lib.rt',
         'if held <= part::place_of_tuple(lane, t) {\n        return 11;\n    }\n'
-        '    if rows::take::lacking(side, t, other, room, p.count, low.0, at.0, rows, size) {\n'
+        '    if removal::lacking(side, t, other, room, p.count, low.0, at.0, rows, size) {\n'
         '        return 12;\n    }\n',
-        'if rows::take::lacking(side, t, other, room, p.count, low.0, at.0, rows, size) {\n        return 12;\n    }\n'
+        'if removal::lacking(side, t, other, room, p.count, low.0, at.0, rows, size) {\n        return 12;\n    }\n'
         '    if held <= part::place_of_tuple(lane, t) {\n        return 11;\n    }\n',
     ),
     (
-        'join/lib.rt',
+        'insertion/lib.rt',
         'if p.tuples <= held {',
         'if p.tuples <= held && !rows::count::overfull(\n'
         '        side, t, other, room, p.count, low.0, at.0, rows, size, p.rows,\n    ) {',
     ),
     (
         'join/lib.rt',
-        'let number = store_number(p, outer, inner, rows);',
-        'let early = interval::tuple::tuple_number(t);\n    if early != 0 {\n        return refused(early);\n    }\n'
-        '    let number = store_number(p, outer, inner, rows);',
+        'let number = stores::store_number(p, outer, inner, rows);',
+        'let early = interval::tuple::tuple_number(t);\n    if early != 0 {\n'
+        '        return stores::refused(early);\n    }\n'
+        '    let number = stores::store_number(p, outer, inner, rows);',
     ),
     (
         'join/lib.rt',
-        'let unsound = store_number(p, outer, inner, rows);',
-        'let unsound = lengths_number(p, outer.len(), inner.len(), rows.len());',
+        'let unsound = stores::store_number(p, outer, inner, rows);',
+        'let unsound = stores::lengths_number(p, outer.len(), inner.len(), rows.len());',
     ),
-    ('join/lib.rt', 'if !partition::fits_tuples(p, inner) {', 'if false {'),
-    ('join/lib.rt', 'if !partition::sound_tuples(p, inner) {', 'if false {'),
-    ('join/lib.rt', 'if !partition::sound_rows(p, rows) {', 'if false {'),
+    ('stores/lib.rt', 'if !partition::fits_tuples(p, inner) {', 'if false {'),
+    ('stores/lib.rt', 'if !soundness::sound_tuples(p, inner) {', 'if false {'),
+    ('stores/lib.rt', 'if !soundness::sound_rows(p, rows) {', 'if false {'),
     (
         'plan/lib.rt',
         'if !covers(p.count, lasts) {',

@@ -52,6 +52,8 @@ typedef struct {
 extern const peer library, by_hand, nested_loops, hash_join, sqlite, postgres, postgres_gist;
 
 double now_ms(void);
+// each word of the library's three stores read once
+uint64_t sum_of_stores(void);
 void *room(size_t count, size_t size);
 void mix(fingerprint *f, row r);
 // writes a shape's tuples and rows into three stores laid out as document 01 says

@@ -51,6 +51,16 @@ static int check_library(void)
     return number == 6 ? DONE : WRONG;
 }
 
+static uint64_t sum_of(const uint64_t *words, size_t count)
+{
+    uint64_t sum = 0;
+    for (size_t i = 0; i < count; i++)
+        sum += words[i];
+    return sum;
+}
+
+uint64_t sum_of_stores(void) { return sum_of(outer, tuple_words) + sum_of(inner, tuple_words) + sum_of(made, row_words); }
+
 static fingerprint rows_library(void) { return rows_in_store(plan[0], made); }
 
 static void close_library(void) { free(outer), free(inner), free(made), free(outer_cache), free(inner_cache); }

@@ -137,16 +137,14 @@ typedef struct {
     int runs;
 } times;
 
-static int by_size(const void *a, const void *b)
+// the shortest: on a machine that does other things now and then, the time of the work itself
+static double best(const times *t)
 {
-    double x = *(const double *)a, y = *(const double *)b;
-    return (x > y) - (x < y);
-}
-
-static double middle(times *t)
-{
-    qsort(t->at, (size_t)t->runs, sizeof *t->at, by_size);
-    return t->at[t->runs / 2];
+    double least = t->at[0];
+    for (int i = 1; i < t->runs; i++)
+        if (t->at[i] < least)
+            least = t->at[i];
+    return least;
 }
 
 static const peer *const peers[] = {&library,
@@ -220,32 +218,36 @@ static void joins(const char *title, const char *x, const point *points, size_t 
         shape s = make(&points[c].k);
         fingerprint first = {0, 0};
         uint64_t pairs[PEERS] = {0};
-        for (int p = 0; p < PEERS; p++) {
-            const peer *who = peers[p];
-            times t = {.runs = 0};
-            if (who->open(&s))
-                wrong("not opened", who->name);
-            int answer = DONE;
-            double spent = 0;
-            for (int run = -1; run < MOST_RUNS && spent < ENOUGH_MS && !answer; run++) {
-                double began = now_ms();
-                answer = who->join(pairs + p);
-                double took = now_ms() - began;
-                if (run >= 0 || took > ENOUGH_MS) // the first one warms up
-                    t.at[t.runs++] = took, spent += took;
+        // the programs in C have three turns each, so that none of them has the machine's better moments alone
+        for (int turn = 0; turn < 3; turn++)
+            for (int p = 0; p < (turn ? COUNTING : PEERS); p++) {
+                const peer *who = peers[p];
+                times t = {.runs = 0};
+                if (who->open(&s))
+                    wrong("not opened", who->name);
+                int answer = DONE;
+                double spent = 0;
+                for (int run = -1; run < MOST_RUNS && spent < ENOUGH_MS && !answer; run++) {
+                    double began = now_ms();
+                    answer = who->join(pairs + p);
+                    double took = now_ms() - began;
+                    if (run >= 0 || took > ENOUGH_MS) // the first one warms up
+                        t.at[t.runs++] = took, spent += took;
+                }
+                if (answer == WRONG)
+                    wrong("the join was refused", who->name);
+                double time = answer == TOO_LONG ? -1 : best(&t);
+                if (!turn || time < ms[c][p])
+                    ms[c][p] = time;
+                if (answer == DONE) {
+                    fingerprint f = who->rows();
+                    if (!p && !turn)
+                        first = f;
+                    else if (f.rows != first.rows || f.sum != first.sum)
+                        wrong("its rows are not the library's", who->name);
+                }
+                who->close();
             }
-            if (answer == WRONG)
-                wrong("the join was refused", who->name);
-            ms[c][p] = answer == TOO_LONG ? -1 : middle(&t);
-            if (answer == DONE) {
-                fingerprint f = who->rows();
-                if (!p)
-                    first = f;
-                else if (f.rows != first.rows || f.sum != first.sum)
-                    wrong("its rows are not the library's", who->name);
-            }
-            who->close();
-        }
         if (pairs[0] != pairs[1])
             wrong("it compared another number of pairs than the library", by_hand.name);
         printf("| %s |", points[c].x);
@@ -297,7 +299,7 @@ static void both(const char *title)
                 if (run >= 0)
                     t.at[t.runs++] = took;
             }
-            ms[b] = middle(&t);
+            ms[b] = best(&t);
             library.close();
             free((void *)s.drawings), free((void *)s.spots);
         }
@@ -309,15 +311,6 @@ static void both(const char *title)
         printf("\n");
     }
     fflush(stdout);
-}
-
-// the words of three stores, each read once
-__attribute__((noinline)) static uint64_t read_once(const uint64_t *words, size_t count)
-{
-    uint64_t sum = 0;
-    for (size_t i = 0; i < count; i++)
-        sum += words[i];
-    return sum;
 }
 
 static void changes(void)
@@ -368,50 +361,43 @@ static void changes(void)
             row unused;
             expected += (uint64_t)pair_row(&one, q + b, &unused);
         }
-        for (int p = 0; p < PEERS; p++) {
-            const peer *who = peers[p];
-            times t[CALLS] = {{.runs = 0}};
-            if (who->open(&s))
-                wrong("not opened", who->name);
-            fingerprint before = who->rows();
-            for (int run = -1; run < MOST_RUNS; run++) {
-                uint64_t added = 0, removed = 0;
-                double a = now_ms();
-                int x = who->insert(&one, &added);
-                double b = now_ms();
-                int y = who->withdraw(&one, &removed);
-                double e = now_ms();
-                int z = who->check();
-                double f = now_ms();
-                if (x || y || z || added != expected || removed != expected)
-                    wrong("an insert, a withdrawal or a check did not go as expected", who->name);
-                if (run >= 0) {
-                    t[0].at[t[0].runs++] = b - a;
-                    t[1].at[t[1].runs++] = e - b;
-                    t[2].at[t[2].runs++] = f - e;
+        reading[c] = -1;
+        // the programs in C have three turns each; the library's calls and the reading of its stores take turns
+        for (int turn = 0; turn < 3; turn++)
+            for (int p = 0; p < (turn ? COUNTING : PEERS); p++) {
+                const peer *who = peers[p];
+                times t[CALLS + 1] = {{.runs = 0}};
+                if (who->open(&s))
+                    wrong("not opened", who->name);
+                fingerprint before = who->rows();
+                for (int run = -1; run < MOST_RUNS; run++) {
+                    uint64_t added = 0, removed = 0;
+                    double at[CALLS + 2];
+                    at[0] = now_ms();
+                    int x = who->insert(&one, &added);
+                    at[1] = now_ms();
+                    int y = who->withdraw(&one, &removed);
+                    at[2] = now_ms();
+                    int z = who->check();
+                    at[3] = now_ms();
+                    volatile uint64_t sum = p ? 0 : sum_of_stores();
+                    at[4] = now_ms();
+                    (void)sum;
+                    if (x || y || z || added != expected || removed != expected)
+                        wrong("an insert, a withdrawal or a check did not go as expected", who->name);
+                    for (int call = 0; run >= 0 && call <= CALLS; call++)
+                        t[call].at[t[call].runs++] = at[call + 1] - at[call];
                 }
+                fingerprint after = who->rows();
+                if (before.rows != s.row_count || after.rows != before.rows || after.sum != before.sum)
+                    wrong("its rows are not those from before", who->name);
+                for (int call = 0; call < CALLS; call++)
+                    if (!turn || best(t + call) < ms[c][call][p])
+                        ms[c][call][p] = best(t + call);
+                if (!p && (reading[c] < 0 || best(t + CALLS) < reading[c]))
+                    reading[c] = best(t + CALLS);
+                who->close();
             }
-            fingerprint after = who->rows();
-            if (before.rows != s.row_count || after.rows != before.rows || after.sum != before.sum)
-                wrong("its rows are not those from before", who->name);
-            for (int call = 0; call < CALLS; call++)
-                ms[c][call][p] = middle(t + call);
-            who->close();
-        }
-        // reading: stores filled alike
-        uint64_t *outer = room(MOST_LANES * TUPLE_ROOM, 8), *inner = room(MOST_LANES * TUPLE_ROOM, 8), *made = room(MOST_LANES * ROW_ROOM, 8);
-        fill_stores(&s, outer, inner, made);
-        times t = {.runs = 0};
-        for (int run = -1; run < MOST_RUNS; run++) {
-            double a = now_ms();
-            volatile uint64_t sum = read_once(outer, MOST_LANES * TUPLE_ROOM) + read_once(inner, MOST_LANES * TUPLE_ROOM) + read_once(made, MOST_LANES * ROW_ROOM);
-            double b = now_ms();
-            (void)sum;
-            if (run >= 0)
-                t.at[t.runs++] = b - a;
-        }
-        reading[c] = middle(&t);
-        free(outer), free(inner), free(made);
         for (int call = 0; call < CALLS; call++) {
             printf("| %s | %s |", calls[call], shapes[c].name);
             for (int p = 0; p < PEERS; p++)

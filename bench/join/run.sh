@@ -1,6 +1,7 @@
 #!/bin/bash
 # The benchmark: whole join, insert, withdraw and check 5 of the static library beside nested loops, the same algorithm by
-# hand and a hash join in C, SQLite and PostgreSQL, on the same data in one run. Tables on standard output.
+# hand and a hash join in C, SQLite and PostgreSQL, on the same data in one run. Tables on standard output; each time is the
+# best of up to 15 runs.
 #
 #     bench/join/run.sh [PART]       PART: lanes, long, both, sides, labels or changes; all of them unless told otherwise
 #     KEEP=1 bench/join/run.sh       also puts the tables into docs/BENCHMARK.md and draws the plots in docs/ from them

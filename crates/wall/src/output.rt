@@ -58,7 +58,8 @@ fn print_none() {
 }
 
 // Prints the report of the session's wall: 8 lanes of 64 rows, for which `report` asks 16 + 48 * 512 bytes. It refuses
-// only a store that no session leaves, which is not shown here; then there are no rows to print.
+// only a store that no session leaves (crate `transcript`: the field `reported` of `LinesKept`); then there are no rows
+// to print.
 fn print_rows(s: Session, rows: &mut [u64]) {
     let p = session::plan_of(s);
     let used = session::used_rows(s, rows.len());
