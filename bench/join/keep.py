@@ -86,7 +86,8 @@ def panel(out, left, title, x_title, xs, lines):
 
 def plot(title, head, rows):
     """Pairs compared on the left, milliseconds on the right."""
-    xs = [row[0].replace(', colliding', ' coll.') for row in rows]
+    xs = [row[0].replace(', colliding', 'c') for row in rows]
+    x_title = head[0] + (' (c: colliding)' if any(row[0].endswith('colliding') for row in rows) else '')
     names = []
     for h in head[1:]:
         name = h.split(', ', 1)[-1]
@@ -101,8 +102,8 @@ def plot(title, head, rows):
     out = ['<svg xmlns="http://www.w3.org/2000/svg" width="960" height="372" font-family="sans-serif" font-size="11">',
            '<rect width="960" height="372" fill="white"/>',
            f'<text x="12" y="18" font-size="13">{title}</text>']
-    panel(out, 52, 'pairs compared', head[0], xs, lines('pairs, '))
-    panel(out, 440, 'milliseconds', head[0], xs, lines('ms, '))
+    panel(out, 52, 'pairs compared', x_title, xs, lines('pairs, '))
+    panel(out, 440, 'milliseconds', x_title, xs, lines('ms, '))
     legend = list(colour.items())
     if any(number(row[c])[1] for row in rows for c, h in enumerate(head) if h.startswith('ms, ')):
         legend.append(('open circle: limit passed', 'none'))
