@@ -26,9 +26,9 @@ cd "$root"
 rt staticlib exports >"$room/build.out" 2>&1 || { tail -n 30 "$room/build.out" >&2; exit 1; }
 
 flags= libraries= sources="main.c library.c by_hand.c loops.c hash.c"
-as=
+as= sqlite=
 if echo '#include <sqlite3.h>' | ${CC:-gcc} -E - >/dev/null 2>&1; then
-    flags="$flags -DWITH_SQLITE" libraries="$libraries -lsqlite3" sources="$sources sqlite.c"
+    sqlite=yes flags="$flags -DWITH_SQLITE" libraries="$libraries -lsqlite3" sources="$sources sqlite.c"
 else
     echo "SQLite is left out: there is no sqlite3.h (package libsqlite3-dev)" >&2
 fi
@@ -60,7 +60,7 @@ fi
 {
     echo "- Machine: $(sed -n 's/^model name[^:]*: *//p' /proc/cpuinfo | head -n 1), $(nproc) processors, $(free -g | awk '/^Mem/ {print $2}') GiB, $(uname -s) $(uname -m)"
     echo "- C: $(${CC:-gcc} --version | head -n 1), -O3"
-    [ -z "${flags##*SQLITE*}" ] && echo "- SQLite: $(echo '#include <sqlite3.h>
+    [ -z "$sqlite" ] || echo "- SQLite: $(echo '#include <sqlite3.h>
 SQLITE_VERSION' | ${CC:-gcc} -E - | tail -n 1 | tr -d '"'), in memory"
     [ -z "$server" ] || echo "- $("$server/postgres" --version), over a Unix socket, tables unlogged, no fsync, one process for a query"
     "$room/bench" ${1:+"$1"}
