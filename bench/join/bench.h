@@ -60,6 +60,8 @@ void mix(fingerprint *f, row r);
 void fill_stores(const shape *s, uint64_t *outer, uint64_t *inner, uint64_t *made);
 fingerprint rows_in_store(uint64_t lanes, const uint64_t *made);
 int legal_tuple(const tuple *t);
+// the lane of a minute, counted from 0, by the lanes' last minutes
+size_t lane_of(const uint64_t *cuts, uint64_t minute);
 
 // the overlap of two tuples that agree on the label, if there is one
 static inline int pair_row(const tuple *d, const tuple *s, row *r)

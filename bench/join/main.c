@@ -36,10 +36,10 @@ int legal_tuple(const tuple *t)
     return 1 <= t->label && t->label <= LAST_LABEL && t->number <= LAST_NUMBER && t->first <= t->last && t->last <= LAST_MINUTE;
 }
 
-static size_t lane_of(const shape *s, uint64_t minute)
+size_t lane_of(const uint64_t *cuts, uint64_t minute)
 {
     size_t i = 0;
-    while (minute > s->cuts[i])
+    while (minute > cuts[i])
         i++;
     return i;
 }
@@ -47,7 +47,7 @@ static size_t lane_of(const shape *s, uint64_t minute)
 // the record goes to the end of its last minute's lane
 static void append(const shape *s, uint64_t *store, size_t lane_room, size_t width, uint64_t capacity, const uint64_t *record)
 {
-    uint64_t *lane = store + lane_of(s, record[width - 1]) * lane_room;
+    uint64_t *lane = store + lane_of(s->cuts, record[width - 1]) * lane_room;
     if (lane[0] == capacity) {
         fprintf(stderr, "a lane is full\n");
         exit(1);
@@ -159,7 +159,7 @@ static const peer *const peers[] = {&library,
                                     &postgres_gist,
 #endif
 };
-enum { PEERS = sizeof peers / sizeof *peers, COUNTING = 4 };
+enum { PEERS = sizeof peers / sizeof *peers, IN_C = 4 }; // the first four are programs in C, which count their pairs
 
 static void wrong(const char *what, const char *who)
 {
@@ -205,7 +205,7 @@ static void joins(const char *title, const char *x, const point *points, size_t 
 {
     double ms[32][PEERS];
     printf("\n### %s\n\n| %s", title, x);
-    for (int p = 0; p < COUNTING; p++)
+    for (int p = 0; p < IN_C; p++)
         if (peers[p] != &by_hand)
             printf(" | pairs, %s", peers[p]->name);
     for (int p = 0; p < PEERS; p++)
@@ -220,7 +220,7 @@ static void joins(const char *title, const char *x, const point *points, size_t 
         uint64_t pairs[PEERS] = {0};
         // the programs in C have three turns each, so that none of them has the machine's better moments alone
         for (int turn = 0; turn < 3; turn++)
-            for (int p = 0; p < (turn ? COUNTING : PEERS); p++) {
+            for (int p = 0; p < (turn ? IN_C : PEERS); p++) {
                 const peer *who = peers[p];
                 times t = {.runs = 0};
                 if (who->open(&s))
@@ -251,7 +251,7 @@ static void joins(const char *title, const char *x, const point *points, size_t 
         if (pairs[0] != pairs[1])
             wrong("it compared another number of pairs than the library", by_hand.name);
         printf("| %s |", points[c].x);
-        for (int p = 0; p < COUNTING; p++)
+        for (int p = 0; p < IN_C; p++)
             if (peers[p] != &by_hand)
                 printf(" %" PRIu64 " |", pairs[p]);
         for (int p = 0; p < PEERS; p++)
@@ -364,7 +364,7 @@ static void changes(void)
         reading[c] = -1;
         // the programs in C have three turns each; the library's calls and the reading of its stores take turns
         for (int turn = 0; turn < 3; turn++)
-            for (int p = 0; p < (turn ? COUNTING : PEERS); p++) {
+            for (int p = 0; p < (turn ? IN_C : PEERS); p++) {
                 const peer *who = peers[p];
                 times t[CALLS + 1] = {{.runs = 0}};
                 if (who->open(&s))

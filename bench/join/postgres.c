@@ -66,6 +66,8 @@ static int open_postgres(const shape *s)
         fprintf(stderr, "PostgreSQL: %s", PQerrorMessage(db));
         return WRONG;
     }
+    char limit[96];
+    sprintf(limit, "SET statement_timeout = %.0f; SET max_parallel_workers_per_gather = 0", LIMIT_MS);
     return run("SET client_min_messages = warning; DROP TABLE IF EXISTS drawing, spot, made;"
                "CREATE UNLOGGED TABLE drawing(label int8, number int8, span int8range);"
                "CREATE UNLOGGED TABLE spot(label int8, number int8, span int8range);"
@@ -83,7 +85,7 @@ static int open_postgres(const shape *s)
                                     "AND span = int8range($3::int8, $4::int8, '[]') LIMIT 1)")
         // the drawing that the benchmark withdraws has a number of its own, so its rows are those with its label and number
         || prepared("drop_rows", "DELETE FROM made WHERE label = $1::int8 AND drawing = $2::int8 AND span <@ int8range($3::int8, $4::int8, '[]')")
-        || run("SET statement_timeout = 10000; SET max_parallel_workers_per_gather = 0");
+        || run(limit);
 }
 
 static int open_gist(const shape *s)

@@ -14,10 +14,9 @@ use Rattle.interval.specs.declared.time.Chronon.{Chronon}
 use Rattle.plan.specs.Plan.{cover, numbers, recutTo}
 use Rattle.plan.specs.declared.Partitioning.{Partitioning}
 use Rattle.partition.specs.Store.{tupleRoom, rowRoom}
-use Rattle.stores.specs.Stores.{Stores, stores, storeNumber}
+use Rattle.stores.specs.Stores.{Stores, stores, storeNumber, Says}
 use Rattle.stores.specs.declared.Answer.{Answer}
 use Rattle.stores.proofs.Checks.{ready, check-fails, check-holds, fails-first, fails-second, fails-third, all-hold}
-use Rattle.stores.proofs.Checks.{Says}
 use Rattle.join.specs.Repartitioning.{emptyStore, emptyWall, repartitionNumber, Repartitioned}
 use Rattle.join.proofs.ChangeCalls.{tuples-long, rows-long}
 

@@ -4,9 +4,9 @@
 use mathlib.Core.Bool.{Bool, false, not, _&&_, _||_}
 use mathlib.Core.List.{[], _∷_}
 use mathlib.Core.Path.{_≡_}
-use Prim.Native.Nat.{ℕ, _+_, _-_, _*_, min}
+use Prim.Native.Nat.{ℕ, _+_, _-_, _*_, _≤_, min}
 use lib.Dec.{leb, ltb, eqb}
-use lib.ListN.{getD, take, drop, set, replicate}
+use lib.ListN.{length, getD, take, drop, set, replicate}
 use Rattle.lists.specs.Choice.{pick, refuseIf, firstOf}
 use Rattle.interval.specs.Time.{calendarEnd}
 use Rattle.interval.specs.declared.time.Chronon.{Chronon}
@@ -65,6 +65,12 @@ usedTuples s = usedLanes s * tupleRoom (planOf s)
 
 abbrev pub usedRows : Session → ℕ
 usedRows s = usedLanes s * rowRoom (planOf s)
+
+-- lent stores that have the words of 8 lanes, as the program's have
+pub record EightLanes (S : Stores) : Type 0 where
+  pub outer : 8 * 129 ≤ length (S .outer)
+  pub inner : 8 * 129 ≤ length (S .inner)
+  pub rows : 8 * 321 ≤ length (S .rows)
 
 -- the wall: the words in use
 abbrev pub wallOf : Session → Stores → Stores

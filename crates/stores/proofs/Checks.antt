@@ -13,7 +13,6 @@ use Rattle.plan.specs.Plan.{planNumber}
 use Rattle.plan.specs.declared.Partitioning.{Partitioning}
 use Rattle.partition.specs.Store.{fitsTuples, fitsRows, soundTuples, soundRows}
 use Rattle.stores.specs.Stores.{Stores, fitsAll, sound, lengthsNumber, storeNumber}
-use Rattle.stores.specs.declared.Answer.{Answer}
 
 -- the last check of a list, where its test fails and where it holds
 pub check-fails : (b : Bool) (n : ℕ) → b ≡ false → n ≡ firstOf (refuseIf (not b) n ∷ [])
@@ -86,7 +85,3 @@ ready p s e =
 -- a store that fits passes its test of soundness exactly if it is sound
 pub sound-is : (fits sound answer : Bool) → fits ≡ true → answer ≡ (fits && sound) → answer ≡ sound
 sound-is fits sound answer h e = e ∙ rw h
-
--- what `refused` answers
-abbrev pub Says : Answer → ℕ → Type 0
-Says a n = (a .number ≡ n) × ((a .changed ≡ 0) × (a .examined ≡ 0))

@@ -1,12 +1,14 @@
--- The three stores, and the checks that every call makes of plan and stores.
+-- The three stores, the checks that every call makes of plan and stores, and an answer without counts.
 use mathlib.Core.Bool.{Bool, not, _&&_}
 use mathlib.Core.List.{List, [], _∷_}
+use mathlib.Core.Path.{_≡_}
 use Prim.Native.Nat.{ℕ}
 use lib.ListN.{length}
 use Rattle.lists.specs.Choice.{refuseIf, firstOf}
 use Rattle.plan.specs.Plan.{planNumber}
 use Rattle.plan.specs.declared.Partitioning.{Partitioning}
 use Rattle.partition.specs.Store.{fitsTuples, fitsRows, soundTuples, soundRows}
+use Rattle.stores.specs.declared.Answer.{Answer}
 
 -- "Store 1 holds drawings, store 2 spots, store 3 rows": the words of the three
 pub record Stores : Type 0 where
@@ -37,3 +39,7 @@ openNumber p s = lengthsNumber p (length (s .outer)) (length (s .inner)) (length
 
 unfoldable pub storeNumber : Partitioning → Stores → ℕ
 storeNumber p s = firstOf (openNumber p s ∷ (refuseIf (not (sound p s)) 5 ∷ []))
+
+-- an answer of that number, with "both 0": the two counts
+abbrev pub Says : Answer → ℕ → Type 0
+Says a n = (a .number ≡ n) × ((a .changed ≡ 0) × (a .examined ≡ 0))

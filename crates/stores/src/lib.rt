@@ -1,7 +1,7 @@
 // The checks that every call makes of plan and stores, 1 to 5, over the three stores, and what a call answers.
 // The definitions are in specs/Stores.
 ghost use mathlib.Core.Path.{_≡_};
-ghost use Rattle.stores.specs.Stores.{stores, lengthsNumber, storeNumber};
+ghost use Rattle.stores.specs.Stores.{stores, lengthsNumber, storeNumber, Says};
 use plan::Partitioning;
 
 // What a call answers: the refusal number (0: accepted) and two counts.
@@ -13,7 +13,7 @@ pub struct Answer {
 
 // A refusal by that number; 0: accepted, with nothing to count.
 pub fn refused(number: u64) -> Answer
-    ensures { λ r. ⌜ (r .number ≡ number) × ((r .changed ≡ 0) × (r .examined ≡ 0)) ⌝ }
+    ensures { λ r. ⌜ Says r number ⌝ }
 {
     Answer {
         number,

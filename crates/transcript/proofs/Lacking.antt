@@ -1,5 +1,5 @@
 -- Check 12 never applies where the stores hold what the machine holds: a stored tuple's rows all stand in the rows
--- store, each as often as they must go (`lacks-none`). So no change on such a wall gets 12 (`call-other`).
+-- store, each as often as they must go (`lacks-none`). So no change on such a wall gets 12 (`call-not12`).
 -- In order: a row's count in the store, in the join and among the rows that must go; the checks of insert and delete.
 -- Assumes nothing.
 use mathlib.Core.Bool.{Bool, true, false, not, _||_}
@@ -92,51 +92,51 @@ module _ (p : Partitioning) (side : Side) (t : Tuple) (own other rows : List ℕ
 
 -- ---- the checks of insert and delete
 
--- every number but 12
-abbrev pub other : ℕ → Bool
-other n = not (eqb n 12)
+-- any number but 12
+abbrev pub not12 : ℕ → Bool
+not12 n = not (eqb n 12)
 
 -- a check before others, and one that guards the last
-first-other : (n : ℕ) (ns : List ℕ) → other n ≡ true → other (firstOf ns) ≡ true → other (firstOf (n ∷ ns)) ≡ true
+first-not12 : (n : ℕ) (ns : List ℕ) → not12 n ≡ true → not12 (firstOf ns) ≡ true → not12 (firstOf (n ∷ ns)) ≡ true
 unfolding firstOf
-first-other zero ns h g = g
-first-other (suc n) ns h g = h
+first-not12 zero ns h g = g
+first-not12 (suc n) ns h g = h
 
-guard-other : (m n : ℕ) → other m ≡ true → (m ≡ 0 → n ≡ 0) → other (firstOf (m ∷ (n ∷ []))) ≡ true
+guard-not12 : (m n : ℕ) → not12 m ≡ true → (m ≡ 0 → n ≡ 0) → not12 (firstOf (m ∷ (n ∷ []))) ≡ true
 unfolding firstOf
-guard-other zero n h g = rw (g refl)
-guard-other (suc m) n h g = h
+guard-not12 zero n h g = rw (g refl)
+guard-not12 (suc m) n h g = h
 
-tuple-other : (t : Tuple) → other (tupleNumber t) ≡ true
+tuple-not12 : (t : Tuple) → not12 (tupleNumber t) ≡ true
 unfolding tupleNumber labelCheck itemCheck validCheck
-tuple-other t =
+tuple-not12 t =
     let v = t .valid in
-    first-met other _ refl
-    (and-both _ _ (refuse-ok other (ltb (t .label) 1 || ltb labelEnd (t .label)) 6 refl refl)
-    (and-both _ _ (refuse-ok other (ltb itemEnd (t .item)) 7 refl refl)
+    first-met not12 _ refl
+    (and-both _ _ (refuse-ok not12 (ltb (t .label) 1 || ltb labelEnd (t .label)) 6 refl refl)
+    (and-both _ _ (refuse-ok not12 (ltb itemEnd (t .item)) 7 refl refl)
     (and-both _ _
-    (refuse-ok other (ltb (v .last .0) (v .first .0) || ltb calendarEnd (v .last .0)) 8 refl refl) refl)))
+    (refuse-ok not12 (ltb (v .last .0) (v .first .0) || ltb calendarEnd (v .last .0)) 8 refl refl) refl)))
 
 module _ (m : Machine) (p : Partitioning) (t : Tuple) (s : Stores) (k : Kept m p s) (z : storeNumber p s ≡ 0) where
-  store-other : other (storeNumber p s) ≡ true
-  store-other = ap other z
+  store-not12 : not12 (storeNumber p s) ≡ true
+  store-not12 = ap not12 z
 
-  insert-other : (side : Side) → other (insertNumber p side t s) ≡ true
+  insert-not12 : (side : Side) → not12 (insertNumber p side t s) ≡ true
   unfolding insertNumber
-  insert-other side =
-      first-met other _ refl
-      (and-both _ _ store-other
-      (and-both _ _ (tuple-other t)
-      (and-both _ _ (refuse-ok other (full p t (ownStore side s)) 9 refl refl)
+  insert-not12 side =
+      first-met not12 _ refl
+      (and-both _ _ store-not12
+      (and-both _ _ (tuple-not12 t)
+      (and-both _ _ (refuse-ok not12 (full p t (ownStore side s)) 9 refl refl)
       (and-both _ _
-      (refuse-ok other (overfull p (s .rows) (made p side t (otherStore side s))) 10 refl refl) refl))))
+      (refuse-ok not12 (overfull p (s .rows) (made p side t (otherStore side s))) 10 refl refl) refl))))
 
-  delete-other : (side : Side) → other (deleteNumber p side t s) ≡ true
+  delete-not12 : (side : Side) → not12 (deleteNumber p side t s) ≡ true
   unfolding deleteNumber
-  delete-other side =
-      first-other (storeNumber p s) _ store-other
-      (first-other (tupleNumber t) _ (tuple-other t)
-      (guard-other (refuseIf (not there) 11) (refuseIf lacking 12) (refuse-ok other (not there) 11 refl refl) none))
+  delete-not12 side =
+      first-not12 (storeNumber p s) _ store-not12
+      (first-not12 (tupleNumber t) _ (tuple-not12 t)
+      (guard-not12 (refuseIf (not there) 11) (refuseIf lacking 12) (refuse-ok not12 (not there) 11 refl refl) none))
     where
       there : Bool
       there = any (sameTuple t) (storedTuples p (ownStore side s))
@@ -150,8 +150,8 @@ module _ (m : Machine) (p : Partitioning) (t : Tuple) (s : Stores) (k : Kept m p
           (lacks-none p side t (ownStore side s) (otherStore side s) (s .rows) (ownTuples side m) (otherTuples side m)
           (kept-from side m p s k) (not-false there (refuse-none (not there) 10 e)))
 
-  pub call-other : (w : Word) → other (callNumber w p t s) ≡ true
-  call-other DrawIn = insert-other Outer
-  call-other DrawOut = delete-other Outer
-  call-other SpotIn = insert-other Inner
-  call-other SpotOut = delete-other Inner
+  pub call-not12 : (w : Word) → not12 (callNumber w p t s) ≡ true
+  call-not12 DrawIn = insert-not12 Outer
+  call-not12 DrawOut = delete-not12 Outer
+  call-not12 SpotIn = insert-not12 Inner
+  call-not12 SpotOut = delete-not12 Inner

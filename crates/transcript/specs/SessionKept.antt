@@ -18,9 +18,8 @@ use Rattle.report.specs.declared.Reported.{Reported}
 use Rattle.lines.specs.Line.{lineOf}
 use Rattle.lines.specs.declared.Line.{Line}
 use Rattle.lines.specs.declared.Line.the-variants.{Lane, Change, Malformed}
-use Rattle.session.specs.Session.{planOf, wallOf}
+use Rattle.session.specs.Session.{EightLanes, planOf, wallOf}
 use Rattle.session.specs.declared.Session.{Session}
-use Rattle.session.proofs.Numbers.{Roomy}
 use Rattle.transcript.specs.Transcript.{Transcript, begun, then}
 use Rattle.transcript.specs.Rows.{printedRows}
 
@@ -73,5 +72,5 @@ pub record LinesKept {S₀ : Stores} {ns : List ℕ} {ts : List Told} {s : Sessi
 -- words of 8 lanes (1,032, 1,032 and 2,568)
 abbrev pub SessionKept : Type 0
 SessionKept =
-    (S₀ : Stores) → Roomy S₀
+    (S₀ : Stores) → EightLanes S₀
     → (ns : List ℕ) (ts : List Told) (s : Session) (S : Stores) (x : Transcript S₀ ns ts s S) → LinesKept x
