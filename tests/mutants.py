@@ -42,27 +42,27 @@ EDITS = [
         'rows/add.rt',
         '            i,\n        );\n        j += 1;',
         '            i,\n        );\n        if j == at {\n'
-        '            add_from(side, t, partition::partition(other, room, PartitionIndex(j)), rows, size, i);\n'
+        '            add_from(side, t, store::partition(other, room, PartitionIndex(j)), rows, size, i);\n'
         '        }\n        j += 1;',
     ),
     # what is taken out
     ('removal/lib.rt', 'if stands < goes {', 'if stands < 1 {'),
     ('removal/lib.rt', 'if stands < goes {', 'if stands <= goes {'),
     ('removal/lib.rt', 'if stands < goes {', 'if false {'),
-    ('removal/lib.rt', 'partition::remove_row(rows, size, PartitionIndex(i), place);', ''),
+    ('removal/lib.rt', 'store::remove_row(rows, size, PartitionIndex(i), place);', ''),
     (
         'removal/lib.rt',
-        'partition::remove_row(rows, size, PartitionIndex(i), place);',
+        'store::remove_row(rows, size, PartitionIndex(i), place);',
         'let mut place = place;\n'
-        'while (place as u64) < part::count(partition::partition(rows, size, PartitionIndex(i))) {\n'
-        'partition::remove_row(rows, size, PartitionIndex(i), place);\n'
-        'place = part::place_of_row(partition::partition(rows, size, PartitionIndex(i)), row);\n'
+        'while (place as u64) < part::count(store::partition(rows, size, PartitionIndex(i))) {\n'
+        'store::remove_row(rows, size, PartitionIndex(i), place);\n'
+        'place = part::place_of_row(store::partition(rows, size, PartitionIndex(i)), row);\n'
         '}',
     ),
     (
         'removal/lib.rt',
-        'partition::remove_row(rows, size, PartitionIndex(i), place);',
-        'partition::remove_row(rows, size, PartitionIndex(i), 0);',
+        'store::remove_row(rows, size, PartitionIndex(i), place);',
+        'store::remove_row(rows, size, PartitionIndex(i), 0);',
     ),
     # one lane
     ('part/lib.rt', 'write_tuple(part, 1 + 4 * k, moved);', 'write_tuple(part, 1, moved);'),
@@ -88,8 +88,8 @@ EDITS = [
     ('soundness/lib.rt', 'zeros_one_by_one(words, i)', 'true'),
     ('soundness/lib.rt', 'if t.valid.last.0 < first {', 'if false {'),
     ('soundness/lib.rt', 'row.valid.last.0 <= last', 'true'),
-    ('partition/lib.rt', 'len == p.count as usize * tuple_room(p)', 'p.count as usize * tuple_room(p) <= len'),
-    ('partition/lib.rt', 'len == p.count as usize * row_room(p)', 'len <= p.count as usize * row_room(p)'),
+    ('store/lib.rt', 'len == p.count as usize * tuple_room(p)', 'p.count as usize * tuple_room(p) <= len'),
+    ('store/lib.rt', 'len == p.count as usize * row_room(p)', 'len <= p.count as usize * row_room(p)'),
     ('interval/tuple.rt', 'if LABEL_END < label {', 'if LABEL_END <= label {'),
     ('interval/tuple.rt', 'if ITEM_END < item { 7 } else { 0 }', 'if ITEM_END <= item { 7 } else { 0 }'),
     ('interval/tuple.rt', 'if CALENDAR_END < valid.last.0 {', 'if CALENDAR_END < valid.first.0 {'),
@@ -98,23 +98,23 @@ EDITS = [
     # the calls: what they do
     (
         'insertion/lib.rt',
-        'if full != 0 {\n        return stores::refused(full);\n    }\n    insert_rows(',
-        'if true {\n        return stores::refused(full);\n    }\n    insert_rows(',
+        'if full != 0 {\n        return checks::refused(full);\n    }\n    insert_rows(',
+        'if true {\n        return checks::refused(full);\n    }\n    insert_rows(',
     ),
     (
         'deletion/lib.rt',
         'if missing != 0 {',
         'if true {',
     ),
-    ('insertion/lib.rt', 'partition::append_tuple(own, room, at, t);', ''),
-    ('insertion/lib.rt', 'partition::append_tuple(own, room, at, t);', 'partition::append_tuple(own, room, low, t);'),
+    ('insertion/lib.rt', 'store::append_tuple(own, room, at, t);', ''),
+    ('insertion/lib.rt', 'store::append_tuple(own, room, at, t);', 'store::append_tuple(own, room, low, t);'),
     ('insertion/lib.rt', 'rows::add::add_rows(side, t, other, room, p.count, low.0, at.0, rows, size);', ''),
     (
         'insertion/lib.rt',
         'rows::add::add_rows(side, t, other, room, p.count, low.0, at.0, rows, size);',
         'rows::add::add_rows(side, t, other, room, p.count, at.0, at.0, rows, size);',
     ),
-    ('deletion/lib.rt', 'partition::remove_tuple(own, room, at, place);', 'partition::remove_tuple(own, room, at, 0);'),
+    ('deletion/lib.rt', 'store::remove_tuple(own, room, at, place);', 'store::remove_tuple(own, room, at, 0);'),
     ('deletion/lib.rt', 'removal::take_rows(side, t, other, room, p.count, low.0, at.0, rows, size);', ''),
     (
         'deletion/lib.rt',
@@ -147,45 +147,45 @@ EDITS = [
     ('cache/lib.rt', 'let tuples = started_from(store, room, i + 1,', 'let tuples = started_from(store, room, i,'),
     ('cache/lib.rt', 'if most < tuples {', 'if true {'),
     (
-        'sweep/lanes.rt',
+        'sweep/partitions.rt',
         'own_own + (own_cached + cached_own)',
         'let mut k: usize = 0;\n    while k < d {\n        let mut l: usize = 0;\n        while l < c {\n'
-        '            let pair = rows::oriented(Side::Outer, cache::tuple(rcache, l), cache::tuple(scache, k));\n'
+        '            let pair = rows::oriented(Side::Outer, cache::tuple(outer_cache, l), cache::tuple(inner_cache, k));\n'
         '            if let rows::Pair::Makes(row) = pair {\n'
-        '                partition::append_row(rows, size, PartitionIndex(i), row);\n            }\n'
+        '                store::append_row(rows, size, PartitionIndex(i), row);\n            }\n'
         '            l += 1;\n        }\n        k += 1;\n    }\n    own_own + (own_cached + cached_own)',
     ),
-    ('sweep/lanes.rt', 'join_run(Side::Inner, scache, d, outer, rows, size, i)', '0'),
-    ('sweep/lanes.rt', 'join_run(Side::Outer, rcache, c, inner, rows, size, i)', '0'),
-    ('sweep/lanes.rt', 'own_own + (own_cached + cached_own)', 'own_own + (own_own + (own_cached + cached_own))'),
-    ('sweep/lanes.rt', 'own_own + (own_cached + cached_own)', 'own_own + own_cached'),
-    ('sweep/lanes.rt', 'part::clear(rows);', ''),
-    ('sweep/lanes.rt', 'let last = lasts[i.0 as usize - 1];', 'let last = lasts[i.0 as usize];'),
+    ('sweep/partitions.rt', 'join_run(Side::Inner, inner_cache, d, outer, rows, size, i)', '0'),
+    ('sweep/partitions.rt', 'join_run(Side::Outer, outer_cache, c, inner, rows, size, i)', '0'),
+    ('sweep/partitions.rt', 'own_own + (own_cached + cached_own)', 'own_own + (own_own + (own_cached + cached_own))'),
+    ('sweep/partitions.rt', 'own_own + (own_cached + cached_own)', 'own_own + own_cached'),
+    ('sweep/partitions.rt', 'part::clear(rows);', ''),
+    ('sweep/partitions.rt', 'let last = lasts[i.0 as usize - 1];', 'let last = lasts[i.0 as usize];'),
     ('sweep/count.rt', 'if p.rows < rows_of(', 'if p.rows <= rows_of('),
     ('sweep/count.rt', 'i.0 + 1, p.count, last, own_outer)', 'i.0, p.count, last, own_outer)'),
     ('join/lib.rt', 'changed: written,', 'changed: compared,'),
-    ('join/lib.rt', 'if rcache < 4 * cache::need(', 'if rcache <= 4 * cache::need('),
-    ('join/lib.rt', 'if scache < 4 * cache::need(', 'if scache + 1 < 4 * cache::need('),
-    ('join/lib.rt', 'if scache < 4 * cache::need(p, inner)', 'if scache < 4 * cache::need(p, outer)'),
+    ('join/lib.rt', 'if outer_cache < 4 * cache::need(', 'if outer_cache <= 4 * cache::need('),
+    ('join/lib.rt', 'if inner_cache < 4 * cache::need(', 'if inner_cache + 1 < 4 * cache::need('),
+    ('join/lib.rt', 'if inner_cache < 4 * cache::need(p, inner)', 'if inner_cache < 4 * cache::need(p, outer)'),
     ('join/lib.rt', '        return 14;\n    }\n    if sweep::', '        return 10;\n    }\n    if sweep::'),
     ('join/lib.rt', 'if sweep::count::overfull(p, outer, inner) {', 'if false {'),
     (
         'join/lib.rt',
-        'if rcache < 4 * cache::need(',
-        'if sweep::count::overfull(p, outer, inner) {\n        return 10;\n    }\n    if rcache < 4 * cache::need(',
+        'if outer_cache < 4 * cache::need(',
+        'if sweep::count::overfull(p, outer, inner) {\n        return 10;\n    }\n    if outer_cache < 4 * cache::need(',
     ),
     (
         'join/lib.rt',
-        'if tight != 0 {\n        return stores::refused(tight);',
-        'if tight != 0 {\n        part::clear(rcache);\n        return stores::refused(tight);',
+        'if tight != 0 {\n        return checks::refused(tight);',
+        'if tight != 0 {\n        part::clear(outer_cache);\n        return checks::refused(tight);',
     ),
     (
         'join/lib.rt',
-        'if tight != 0 {\n        return stores::refused(tight);',
-        'if tight != 0 {\n        part::clear(rows);\n        return stores::refused(tight);',
+        'if tight != 0 {\n        return checks::refused(tight);',
+        'if tight != 0 {\n        part::clear(rows);\n        return checks::refused(tight);',
     ),
     # the repartition
-    ('join/lib.rt', 'plan: plan::recut(p, new),', 'plan: p,'),
+    ('join/lib.rt', 'plan: plan::with_cuts(p, new),', 'plan: p,'),
     ('plan/lib.rt', 'let mut places = p.count;', 'let mut places: u64 = 64;'),
     ('plan/lib.rt', 'let mut i: u64 = 0;\n    while i < places {', 'let mut i: u64 = 1;\n    while i < places {'),
     ('join/lib.rt', 'if !plan::covers(p.count, new) {', 'if false {'),
@@ -194,32 +194,32 @@ EDITS = [
     ('join/lib.rt', 'if !is_empty(inner, room, p.count) {', 'if false {'),
     (
         'join/lib.rt',
-        'if kept != 0 {\n        return NewPlan {\n            answer: stores::refused(kept),\n            plan: p,',
-        'if kept != 0 {\n        return NewPlan {\n            answer: stores::refused(kept),\n'
-        '            plan: plan::recut(p, new),',
+        'if kept != 0 {\n        return NewPlan {\n            answer: checks::refused(kept),\n            plan: p,',
+        'if kept != 0 {\n        return NewPlan {\n            answer: checks::refused(kept),\n'
+        '            plan: plan::with_cuts(p, new),',
     ),
     (
         'join/lib.rt',
-        'if !plan::covers(p.count, new) {\n        return 2;\n    }\n    let room = partition::tuple_room(p);',
-        'let room = partition::tuple_room(p);\n    if !is_empty(outer, room, p.count) {\n        return 13;\n    }\n'
+        'if !plan::covers(p.count, new) {\n        return 2;\n    }\n    let room = store::tuple_room(p);',
+        'let room = store::tuple_room(p);\n    if !is_empty(outer, room, p.count) {\n        return 13;\n    }\n'
         '    if !plan::covers(p.count, new) {\n        return 2;\n    }',
     ),
     # the calls: a refusal that writes, and rows that are put in another order in lanes that are not concerned
     (
         'insertion/lib.rt',
-        'if full != 0 {\n        return stores::refused(full);\n    }\n    insert_rows(',
-        'if full != 0 {\n        if full == 10 {\n            partition::append_tuple(own, '
-        'partition::tuple_room(p), plan::home(p, t.valid.last), t);\n        }\n'
-        '        return stores::refused(full);\n    }\n    insert_rows(',
+        'if full != 0 {\n        return checks::refused(full);\n    }\n    insert_rows(',
+        'if full != 0 {\n        if full == 10 {\n            store::append_tuple(own, '
+        'store::tuple_room(p), plan::home(p, t.valid.last), t);\n        }\n'
+        '        return checks::refused(full);\n    }\n    insert_rows(',
     ),
     (
         'insertion/lib.rt',
-        'partition::append_tuple(own, room, at, t);',
-        'partition::append_tuple(own, room, at, t);\n'
+        'store::append_tuple(own, room, at, t);',
+        'store::append_tuple(own, room, at, t);\n'
         'if rows[0] > 1 && at.0 > 0 && low.0 > 0 {\n    for f in 1..6 {\n        rows.swap(f, f + 5);\n    }\n}',
     ),
     # the calls: their counts
-    ('stores/lib.rt', 'changed: 0,', 'changed: number,'),
+    ('checks/lib.rt', 'changed: 0,', 'changed: number,'),
     (
         'insertion/lib.rt',
         'let changed = rows::count::matches_from(side, t, other, room, low.0, p.count);',
@@ -256,19 +256,19 @@ EDITS = [
     ),
     (
         'join/lib.rt',
-        'let number = stores::store_number(p, outer, inner, rows);',
+        'let number = checks::store_number(p, outer, inner, rows);',
         'let early = interval::tuple::tuple_number(t);\n    if early != 0 {\n'
-        '        return stores::refused(early);\n    }\n'
-        '    let number = stores::store_number(p, outer, inner, rows);',
+        '        return checks::refused(early);\n    }\n'
+        '    let number = checks::store_number(p, outer, inner, rows);',
     ),
     (
         'join/lib.rt',
-        'let unsound = stores::store_number(p, outer, inner, rows);',
-        'let unsound = stores::lengths_number(p, outer.len(), inner.len(), rows.len());',
+        'let unsound = checks::store_number(p, outer, inner, rows);',
+        'let unsound = checks::lengths_number(p, outer.len(), inner.len(), rows.len());',
     ),
-    ('stores/lib.rt', 'if !partition::fits_tuples(p, inner) {', 'if false {'),
-    ('stores/lib.rt', 'if !soundness::sound_tuples(p, inner) {', 'if false {'),
-    ('stores/lib.rt', 'if !soundness::sound_rows(p, rows) {', 'if false {'),
+    ('checks/lib.rt', 'if !store::fits_tuples(p, inner) {', 'if false {'),
+    ('checks/lib.rt', 'if !soundness::sound_tuples(p, inner) {', 'if false {'),
+    ('checks/lib.rt', 'if !soundness::sound_rows(p, rows) {', 'if false {'),
     (
         'plan/lib.rt',
         'if !covers(p.count, lasts) {',

@@ -14,8 +14,8 @@ use Rattle.interval.specs.declared.tuple.Tuple.{Tuple}
 use Rattle.plan.specs.Plan.{numbers}
 use Rattle.plan.specs.declared.Partitioning.{Partitioning}
 use Rattle.rows.specs.declared.Side.{Side}
-use Rattle.stores.specs.Stores.{Stores}
-use Rattle.stores.specs.declared.Answer.{Answer}
+use Rattle.checks.specs.Stores.{Stores}
+use Rattle.checks.specs.declared.Answer.{Answer}
 use Rattle.join.specs.Opening.{Opened}
 use Rattle.join.specs.Changes.{Inserted, Deleted}
 use Rattle.join.specs.Sweeps.{Swept}

@@ -15,10 +15,10 @@ use lib.Seq.{paste, paste-zero, paste-suc, length-paste, take-all, getD-take, ge
 use borrow.Author.Tests.{eqb-true, eqb-false}
 use Rattle.lists.proofs.Choice.{bool-cases}
 use Rattle.interval.specs.declared.time.Chronon.{Chronon}
-use Rattle.plan.specs.Plan.{numbers, recutTo}
+use Rattle.plan.specs.Plan.{numbers, withCuts}
 use Rattle.plan.specs.declared.Partitioning.{Partitioning}
-use Rattle.stores.specs.Stores.{Stores}
-use Rattle.stores.specs.declared.Answer.{Answer}
+use Rattle.checks.specs.Stores.{Stores}
+use Rattle.checks.specs.declared.Answer.{Answer}
 use Rattle.join.specs.Repartitioning.{Repartitioned}
 use Rattle.exports.specs.Exports.{planWords, minutes, planIn}
 
@@ -143,9 +143,9 @@ module _ (ws : List ℕ) (e : length ws ≡ planWords) where
       let lasts = minutes (take 64 (drop 3 ws)) in
       put-back lasts q (length-minutes-at 3 ws (omega arith)) (h ∙ sym (plan-said ws lasts refl))
 
-  put-new : (new : List Chronon) (q : Partitioning) → length new ≡ 64 → q ≡ recutTo (planIn ws) new
+  put-new : (new : List Chronon) (q : Partitioning) → length new ≡ 64 → q ≡ withCuts (planIn ws) new
       → planIn (take 3 ws ++ numbers (q .lasts)) ≡ q
-  unfolding recutTo planIn
+  unfolding withCuts planIn
   put-new new q l h =
       let n = getD ws 0 0 in
       let old = minutes (take 64 (drop 3 ws)) in

@@ -13,7 +13,7 @@ use Rattle.interval.specs.declared.tuple.Tuple.{Tuple}
 use Rattle.plan.specs.declared.Partitioning.{Partitioning}
 use Rattle.rows.specs.declared.Side.{Side}
 use Rattle.rows.specs.declared.Side.the-variants.{Outer, Inner}
-use Rattle.stores.specs.declared.Answer.{Answer}
+use Rattle.checks.specs.declared.Answer.{Answer}
 
 -- the words of a plan and of an answer
 abbrev pub planWords : ℕ

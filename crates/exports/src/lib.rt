@@ -11,7 +11,7 @@ ghost use mathlib.Core.Path.{_≡_};
 ghost use lib.Dec.{eqb};
 ghost use Prim.Native.Nat.{_+_, _≤_};
 ghost use lib.ListN.{length, take, drop};
-ghost use Rattle.stores.specs.Stores.{stores};
+ghost use Rattle.checks.specs.Stores.{stores};
 ghost use Rattle.join.specs.Opening.{Opened};
 ghost use Rattle.join.specs.Changes.{Inserted, Deleted};
 ghost use Rattle.join.specs.Sweeps.{Swept};
@@ -167,11 +167,11 @@ pub extern "C" fn ruthgarwy_sweep(
     outer: &[u64],
     inner: &[u64],
     rows: &mut [u64],
-    rcache: &mut [u64],
-    scache: &mut [u64],
+    outer_cache: &mut [u64],
+    inner_cache: &mut [u64],
     answer: &mut [u64],
 ) -> u64
-    ensures { λ r. ⌜ Exported (lengthsAre (now (plan .entry)) (now (answer .entry))) (now (answer .entry)) (now (answer .exit)) r ((now (rows .exit) ≡ now (rows .entry)) × (now (rcache .exit) ≡ now (rcache .entry)) × (now (scache .exit) ≡ now (scache .entry))) (λ a. Swept (planIn (now (plan .entry))) (stores (now (outer .entry)) (now (inner .entry)) (now (rows .entry))) (now (rcache .entry)) (now (scache .entry)) (stores (now (outer .entry)) (now (inner .entry)) (now (rows .exit))) (now (rcache .exit)) (now (scache .exit)) a) ⌝ }
+    ensures { λ r. ⌜ Exported (lengthsAre (now (plan .entry)) (now (answer .entry))) (now (answer .entry)) (now (answer .exit)) r ((now (rows .exit) ≡ now (rows .entry)) × (now («outer_cache» .exit) ≡ now («outer_cache» .entry)) × (now («inner_cache» .exit) ≡ now («inner_cache» .entry))) (λ a. Swept (planIn (now (plan .entry))) (stores (now (outer .entry)) (now (inner .entry)) (now (rows .entry))) (now («outer_cache» .entry)) (now («inner_cache» .entry)) (stores (now (outer .entry)) (now (inner .entry)) (now (rows .exit))) (now («outer_cache» .exit)) (now («inner_cache» .exit)) a) ⌝ }
 {
     if plan.len() != 67 {
         return 4;
@@ -179,7 +179,7 @@ pub extern "C" fn ruthgarwy_sweep(
     if answer.len() != 3 {
         return 4;
     }
-    let a = join::sweep(plan_in(plan), outer, inner, rows, rcache, scache);
+    let a = join::sweep(plan_in(plan), outer, inner, rows, outer_cache, inner_cache);
     tell(a, answer)
 }
 

@@ -16,7 +16,7 @@ use Rattle.interval.proofs.Tuples.{legal-tuple, valid-ok}
 use Rattle.plan.specs.Plan.{planNumber, cutsOf, home}
 use Rattle.plan.specs.declared.Partitioning.{Partitioning}
 use Rattle.plan.proofs.Homes.{legal-plan, home-within, length-cuts}
-use Rattle.partition.specs.Store.{storedTuples}
+use Rattle.store.specs.Store.{storedTuples}
 use Rattle.rows.specs.Join.{madeWith}
 use Rattle.rows.specs.declared.Side.{Side}
 use Rattle.rows.proofs.Joins.{made-same, apart-gains}

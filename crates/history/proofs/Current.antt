@@ -12,11 +12,11 @@ use borrow.Author.Tests.{eqb-true, eqb-false}
 use Rattle.lists.proofs.Choice.{bool-cases, and-right}
 use Rattle.plan.specs.Plan.{planNumber, legalPlan}
 use Rattle.plan.specs.declared.Partitioning.{Partitioning}
-use Rattle.partition.specs.Store.{tupleRoom, rowRoom, fitsTuples, fitsRows}
+use Rattle.store.specs.Store.{tupleRoom, rowRoom, fitsTuples, fitsRows}
 use Rattle.rows.proofs.Joins.{join-empty-left}
-use Rattle.stores.specs.Stores.{Stores}
-use Rattle.stores.specs.declared.Answer.{Answer}
-use Rattle.stores.proofs.Checks.{fitting}
+use Rattle.checks.specs.Stores.{Stores}
+use Rattle.checks.specs.declared.Answer.{Answer}
+use Rattle.checks.proofs.Checks.{fitting}
 use Rattle.join.specs.Opening.{Opened}
 use Rattle.join.proofs.ChangeCalls.{tuples-long, rows-long}
 use Rattle.history.specs.Machine.{Call, Told, Machine, told, next, machineAfter}

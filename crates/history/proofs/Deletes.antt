@@ -25,15 +25,15 @@ use Rattle.plan.specs.Plan.{home}
 use Rattle.plan.specs.declared.Partitioning.{Partitioning}
 use Rattle.part.specs.Part.{roomOf, counted, tuplesIn, rowsIn, tupleAt, removed, placeOfTuple}
 use Rattle.part.proofs.Parts.{length-removed, length-tuples, tuple-in, tuples-removed, sound-removed, sound-room}
-use Rattle.partition.specs.Store.{tupleRoom, tuplePart, rowPart, tupleAtHome, soundTuplePart, soundRows}
-use Rattle.partition.specs.Store.{storedTuples, tuplesAt, rowsAt}
-use Rattle.partition.proofs.Stores.{on-length, on-same, on-other, partition-length, sound-tuples-at, sound-tuples-on}
-use Rattle.partition.proofs.Stores.{stored-more, tuples-stored-at}
+use Rattle.store.specs.Store.{tupleRoom, tuplePart, rowPart, tupleAtHome, soundTuplePart, soundRows}
+use Rattle.store.specs.Store.{storedTuples, tuplesAt, rowsAt}
+use Rattle.store.proofs.Stores.{on-length, on-same, on-other, partition-length, sound-tuples-at, sound-tuples-on}
+use Rattle.store.proofs.Stores.{stored-more, tuples-stored-at}
 use Rattle.rows.specs.declared.Side.{Side}
 use Rattle.rows.specs.declared.Side.the-variants.{Outer, Inner}
 use Rattle.rows.proofs.Joins.{rows-at-append}
-use Rattle.stores.specs.Stores.{Stores, storeNumber}
-use Rattle.stores.specs.declared.Answer.{Answer}
+use Rattle.checks.specs.Stores.{Stores, storeNumber}
+use Rattle.checks.specs.declared.Answer.{Answer}
 use Rattle.insertion.specs.Changes.{Grown}
 use Rattle.deletion.specs.Deletes.{deleted}
 use Rattle.join.specs.Changes.{ownStore, otherStore, deleteNumber, Deleted}

@@ -17,10 +17,10 @@ use Rattle.plan.specs.Plan.{home}
 use Rattle.plan.specs.declared.Partitioning.{Partitioning}
 use Rattle.part.specs.Part.{tuplesIn, rowsIn}
 use Rattle.part.proofs.Parts.{rows-empty}
-use Rattle.partition.specs.Store.{tupleRoom, rowRoom, tuplePart, rowPart, soundTuples, soundRows}
-use Rattle.partition.specs.Store.{storedTuples, tuplesAt, rowsAt}
-use Rattle.partition.proofs.Stores.{tuples-stored-at, empty-part, empty-tuples-sound, empty-rows-sound}
-use Rattle.partition.proofs.Stores.{empty-tuples-stored}
+use Rattle.store.specs.Store.{tupleRoom, rowRoom, tuplePart, rowPart, soundTuples, soundRows}
+use Rattle.store.specs.Store.{storedTuples, tuplesAt, rowsAt}
+use Rattle.store.proofs.Stores.{tuples-stored-at, empty-part, empty-tuples-sound, empty-rows-sound}
+use Rattle.store.proofs.Stores.{empty-tuples-stored}
 use Rattle.rows.specs.Join.{joinOf, madeWith}
 use Rattle.rows.specs.declared.Side.{Side}
 use Rattle.rows.specs.declared.Side.the-variants.{Outer, Inner}

@@ -20,15 +20,15 @@ use Rattle.plan.specs.Plan.{home}
 use Rattle.plan.specs.declared.Partitioning.{Partitioning}
 use Rattle.part.specs.Part.{counted, tuplesIn, rowsIn, appended}
 use Rattle.part.proofs.Parts.{length-appended, tuples-appended, room-free, sound-appended}
-use Rattle.partition.specs.Store.{tupleRoom, tuplePart, rowPart, tupleAtHome, soundTuplePart}
-use Rattle.partition.specs.Store.{storedTuples, rowsAt}
-use Rattle.partition.proofs.Stores.{on-length, on-same, on-other, partition-length, sound-tuples-at, sound-tuples-on}
-use Rattle.partition.proofs.Stores.{stored-more}
+use Rattle.store.specs.Store.{tupleRoom, tuplePart, rowPart, tupleAtHome, soundTuplePart}
+use Rattle.store.specs.Store.{storedTuples, rowsAt}
+use Rattle.store.proofs.Stores.{on-length, on-same, on-other, partition-length, sound-tuples-at, sound-tuples-on}
+use Rattle.store.proofs.Stores.{stored-more}
 use Rattle.rows.specs.declared.Side.{Side}
 use Rattle.rows.specs.declared.Side.the-variants.{Outer, Inner}
 use Rattle.rows.proofs.Joins.{rows-at-append}
-use Rattle.stores.specs.Stores.{Stores, storeNumber}
-use Rattle.stores.specs.declared.Answer.{Answer}
+use Rattle.checks.specs.Stores.{Stores, storeNumber}
+use Rattle.checks.specs.declared.Answer.{Answer}
 use Rattle.insertion.specs.Changes.{Grown}
 use Rattle.insertion.specs.Inserts.{full, inserted}
 use Rattle.insertion.proofs.Sites.{legal-is}

@@ -14,12 +14,12 @@ use Rattle.interval.specs.declared.tuple.Tuple.{Tuple}
 use Rattle.plan.specs.Plan.{planNumber, legalPlan}
 use Rattle.plan.specs.declared.Partitioning.{Partitioning}
 use Rattle.plan.proofs.Homes.{plan-legal-test}
-use Rattle.partition.specs.Store.{tupleRoom, rowRoom, fitsTuples, fitsRows, soundTuples, soundRows}
+use Rattle.store.specs.Store.{tupleRoom, rowRoom, fitsTuples, fitsRows, soundTuples, soundRows}
 use Rattle.rows.specs.Join.{joinOf}
 use Rattle.rows.specs.declared.Side.{Side}
 use Rattle.rows.specs.declared.Side.the-variants.{Outer, Inner}
-use Rattle.stores.specs.Stores.{Stores, fitsAll, sound}
-use Rattle.stores.proofs.Checks.{all-hold}
+use Rattle.checks.specs.Stores.{Stores, fitsAll, sound}
+use Rattle.checks.proofs.Checks.{all-hold}
 use Rattle.join.specs.Changes.{ownStore, otherStore}
 use Rattle.history.specs.Machine.{Call, Machine, accept, told}
 use Rattle.history.specs.KeptCurrent.{Current, Owed}

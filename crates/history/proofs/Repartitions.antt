@@ -23,18 +23,18 @@ use Rattle.interval.specs.Tuple.{tupleWidth, tupleOf, rowWidth, rowOf, sameTupl
 use Rattle.interval.specs.declared.time.Chronon.{Chronon}
 use Rattle.interval.specs.declared.tuple.Tuple.{Tuple}
 use Rattle.interval.specs.declared.tuple.Row.{Row}
-use Rattle.plan.specs.Plan.{numbers, cutsOf, cover, planNumber, recutTo}
+use Rattle.plan.specs.Plan.{numbers, cutsOf, cover, planNumber, withCuts}
 use Rattle.plan.specs.declared.Partitioning.{Partitioning}
 use Rattle.plan.proofs.Homes.{legal-plan, plan-legal}
 use Rattle.part.specs.Part.{counted, soundPart, tuplesIn}
 use Rattle.part.proofs.Parts.{sound-tail, part-sound, records-none, tuples-none, rows-none}
-use Rattle.partition.specs.Store.{tupleRoom, rowRoom, partitionAt, tuplePart, rowPart, tupleAtHome, rowAtHome}
-use Rattle.partition.specs.Store.{soundTuplePart, soundRowPart, storedTuples, rowsAt}
-use Rattle.partition.proofs.Stores.{sound-tuples-at, sound-rows-at, tuples-sound-by, rows-sound-by}
+use Rattle.store.specs.Store.{tupleRoom, rowRoom, partitionAt, tuplePart, rowPart, tupleAtHome, rowAtHome}
+use Rattle.store.specs.Store.{soundTuplePart, soundRowPart, storedTuples, rowsAt}
+use Rattle.store.proofs.Stores.{sound-tuples-at, sound-rows-at, tuples-sound-by, rows-sound-by}
 use Rattle.rows.specs.Join.{joinOf}
 use Rattle.rows.proofs.Joins.{join-same, join-empty-left, rows-at-same}
-use Rattle.stores.specs.Stores.{Stores, storeNumber}
-use Rattle.stores.specs.declared.Answer.{Answer}
+use Rattle.checks.specs.Stores.{Stores, storeNumber}
+use Rattle.checks.specs.declared.Answer.{Answer}
 use Rattle.join.specs.Repartitioning.{emptyStore, emptyWall, repartitionNumber, Repartitioned}
 use Rattle.history.specs.Machine.{repartition, Machine}
 use Rattle.history.proofs.Held.{TuplesHeld, RowsHeld}
@@ -53,18 +53,18 @@ module _ (p : Partitioning) (new : List Chronon) (long : length new ≡ 64) (pla
   few = legal-plan p legal .most
 
   -- its cuts are the new ones
-  recut-cuts : cutsOf (recutTo p new) ≡ take (p .count) (numbers new)
-  unfolding cutsOf recutTo
-  recut-cuts =
+  with-cuts-cuts : cutsOf (withCuts p new) ≡ take (p .count) (numbers new)
+  unfolding cutsOf withCuts
+  with-cuts-cuts =
       ap (take (p .count)) (map-append (λ (m : Chronon). m .0) (take (p .count) new) (drop (p .count) (p .lasts)))
       ∙ take-at (numbers (take (p .count) new)) (numbers (drop (p .count) (p .lasts))) (p .count)
       (length-map (take (p .count) new) (λ (m : Chronon). m .0)
       ∙ length-take-le (p .count) new (omega (arith, few)))
       ∙ numbers-take (p .count) new
 
-  pub recut-places : length (recutTo p new .lasts) ≡ 64
-  unfolding recutTo
-  recut-places =
+  pub with-cuts-places : length (withCuts p new .lasts) ≡ 64
+  unfolding withCuts
+  with-cuts-places =
       omega (
         arith,
         few,
@@ -73,15 +73,15 @@ module _ (p : Partitioning) (new : List Chronon) (long : length new ≡ 64) (pla
         length-drop (p .count) (p .lasts),
       )
 
-  pub recut-legal : cover (take (p .count) (numbers new)) ≡ true → planNumber (recutTo p new) ≡ 0
-  unfolding recutTo
-  recut-legal e =
+  pub with-cuts-legal : cover (take (p .count) (numbers new)) ≡ true → planNumber (withCuts p new) ≡ 0
+  unfolding withCuts
+  with-cuts-legal e =
       let plan = legal-plan p legal in
-      plan-legal (recutTo p new)
+      plan-legal (withCuts p new)
       (record {
         least = plan .least;
         most = plan .most;
-        covered = ap cover recut-cuts ∙ e;
+        covered = ap cover with-cuts-cuts ∙ e;
         tuples-least = plan .tuples-least;
         tuples-most = plan .tuples-most;
         rows-least = plan .rows-least;
@@ -117,34 +117,34 @@ held-none : (p : Partitioning) (ws : List ℕ) (ts : List Tuple) → TuplesHeld 
 held-none p ws ts h e = rw (stored-none p ws e) at (h .held)
 
 -- under the new plan it holds what it held, and so does an empty rows store
-tuples-recut : (p : Partitioning) (new : List Chronon) (ws : List ℕ) (ts : List Tuple) → TuplesHeld p ws ts
-    → emptyStore (tupleRoom p) (p .count) ws ≡ true → TuplesHeld (recutTo p new) ws ts
-unfolding recutTo storedTuples soundTuplePart
-tuples-recut p new ws ts h e = record {
+tuples-with-cuts : (p : Partitioning) (new : List Chronon) (ws : List ℕ) (ts : List Tuple) → TuplesHeld p ws ts
+    → emptyStore (tupleRoom p) (p .count) ws ≡ true → TuplesHeld (withCuts p new) ws ts
+unfolding withCuts storedTuples soundTuplePart
+tuples-with-cuts p new ws ts h e = record {
   long = h .long;
   sound =
-      tuples-sound-by (recutTo p new) ws
+      tuples-sound-by (withCuts p new) ws
       (λ i l.
       none-sound tupleWidth (p .tuples) (λ ws. tupleAtHome p i (tupleOf ws))
-      (λ ws. tupleAtHome (recutTo p new) i (tupleOf ws)) (tuplePart p ws i) (sound-tuples-at p ws (h .sound) i l)
+      (λ ws. tupleAtHome (withCuts p new) i (tupleOf ws)) (tuplePart p ws i) (sound-tuples-at p ws (h .sound) i l)
       (count-none (tupleRoom p) (p .count) ws e i l));
   held = h .held;
 }
 
-rows-recut : (p : Partitioning) (new : List Chronon) (ws : List ℕ) (rs : List Row) → RowsHeld p ws rs
-    → emptyStore (rowRoom p) (p .count) ws ≡ true → Same sameRow [] rs → RowsHeld (recutTo p new) ws rs
-unfolding recutTo soundRowPart rowsAt
-rows-recut p new ws rs h e q = record {
+rows-with-cuts : (p : Partitioning) (new : List Chronon) (ws : List ℕ) (rs : List Row) → RowsHeld p ws rs
+    → emptyStore (rowRoom p) (p .count) ws ≡ true → Same sameRow [] rs → RowsHeld (withCuts p new) ws rs
+unfolding withCuts soundRowPart rowsAt
+rows-with-cuts p new ws rs h e q = record {
   long = h .long;
   sound =
-      rows-sound-by (recutTo p new) ws
+      rows-sound-by (withCuts p new) ws
       (λ i l.
       none-sound rowWidth (p .rows) (λ ws. rowAtHome p i (rowOf ws))
-      (λ ws. rowAtHome (recutTo p new) i (rowOf ws)) (rowPart p ws i) (sound-rows-at p ws (h .sound) i l)
+      (λ ws. rowAtHome (withCuts p new) i (rowOf ws)) (rowPart p ws i) (sound-rows-at p ws (h .sound) i l)
       (count-none (rowRoom p) (p .count) ws e i l));
   held = λ i l r.
       ap (times sameRow r) (rows-none (rowPart p ws i) (count-none (rowRoom p) (p .count) ws e i l))
-      ∙ rows-at-same (recutTo p new) i [] rs q r;
+      ∙ rows-at-same (withCuts p new) i [] rs q r;
 }
 
 -- ---- the call
@@ -182,28 +182,28 @@ all-empty p s e =
 
 module _ (m : Machine) (p p′ : Partitioning) (new : List Chronon) (s s′ : Stores) (a : Answer) (k : Kept m p s)
     (long : length new ≡ 64) (called : Repartitioned p new s s′ a p′) where
-  abbrev recut : Machine
-  recut = record { plan = recutTo (m .plan) new; outer = m .outer; inner = m .inner }
+  abbrev with-cuts : Machine
+  with-cuts = record { plan = withCuts (m .plan) new; outer = m .outer; inner = m .inner }
 
-  kept-recut : a .number ≡ 0 → Kept recut (recutTo p new) s
-  kept-recut z =
+  kept-with-cuts : a .number ≡ 0 → Kept with-cuts (withCuts p new) s
+  kept-with-cuts z =
       let e = passed p new s (sym (called .number) ∙ z) in
       let n = all-empty p s (e .1) in
       record {
-        in-force = ap (λ (q : Partitioning). recutTo q new) (k .in-force);
-        places = recut-places p new long (k .places) (k .legal);
-        legal = recut-legal p new long (k .places) (k .legal) (e .0);
-        outer = tuples-recut p new (s .outer) (m .outer) (k .outer) (n .outer);
-        inner = tuples-recut p new (s .inner) (m .inner) (k .inner) (n .inner);
+        in-force = ap (λ (q : Partitioning). withCuts q new) (k .in-force);
+        places = with-cuts-places p new long (k .places) (k .legal);
+        legal = with-cuts-legal p new long (k .places) (k .legal) (e .0);
+        outer = tuples-with-cuts p new (s .outer) (m .outer) (k .outer) (n .outer);
+        inner = tuples-with-cuts p new (s .inner) (m .inner) (k .inner) (n .inner);
         rows =
-            rows-recut p new (s .rows) (joinOf (m .outer) (m .inner)) (k .rows) (n .rows)
+            rows-with-cuts p new (s .rows) (joinOf (m .outer) (m .inner)) (k .rows) (n .rows)
             (rw (join-empty-left (m .inner)) at
             (join-same [] (m .outer) (m .inner) (m .inner)
             (held-none p (s .outer) (m .outer) (k .outer) (n .outer)) (same-refl sameTuple (m .inner))));
       }
 
-  accepted-kept : a .number ≡ 0 → Kept recut p′ s′
-  accepted-kept z = rw (called .accepted z, called .kept) (kept-recut z)
+  accepted-kept : a .number ≡ 0 → Kept with-cuts p′ s′
+  accepted-kept z = rw (called .accepted z, called .kept) (kept-with-cuts z)
 
   -- the plan of a machine that is there
   plan-of : (q : Partitioning) (n : Machine) → q ≡ n .plan → (o : Machine) → some n ≡ some o → q ≡ o .plan
@@ -215,10 +215,10 @@ module _ (m : Machine) (p p′ : Partitioning) (new : List Chronon) (s s′ : St
 
   pub repartition-done : (a .number ≡ 0) ⊎ (a .number ≡ 0 → ⊥) → Done m p s (repartition new) (a .number) p′ s′
   repartition-done (inl z) = record {
-    after = recut;
+    after = with-cuts;
     machine = told-accepted (repartition new) (a .number) m z;
     kept = accepted-kept z;
-    owed = plan-of p′ recut (accepted-kept z .in-force);
+    owed = plan-of p′ with-cuts (accepted-kept z .in-force);
   }
   repartition-done (inr ne) =
       done-refused m p p′ s s′ (repartition new) (a .number) ne k (called .refused ne) (called .kept)

@@ -8,12 +8,12 @@ use Rattle.lists.specs.Same.{Same}
 use Rattle.interval.specs.Tuple.{sameRow}
 use Rattle.interval.specs.declared.tuple.Tuple.{Tuple}
 use Rattle.plan.specs.declared.Partitioning.{Partitioning}
-use Rattle.partition.specs.Store.{storedTuples}
+use Rattle.store.specs.Store.{storedTuples}
 use Rattle.rows.specs.Join.{joinOf}
 use Rattle.rows.proofs.Joins.{join-same}
 use Rattle.sweep.specs.Pairs.{joined}
-use Rattle.stores.specs.Stores.{Stores}
-use Rattle.stores.specs.declared.Answer.{Answer}
+use Rattle.checks.specs.Stores.{Stores}
+use Rattle.checks.specs.declared.Answer.{Answer}
 use Rattle.join.specs.Sweeps.{Swept}
 use Rattle.history.specs.Machine.{sweep, Machine}
 use Rattle.history.proofs.Held.{TuplesHeld, rows-held-same}

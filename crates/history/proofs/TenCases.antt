@@ -15,7 +15,7 @@ use Rattle.interval.specs.declared.tuple.Row.{Row}
 use Rattle.plan.specs.Plan.{cutsOf, homeOf, home, startOf}
 use Rattle.plan.specs.declared.Partitioning.{Partitioning}
 use Rattle.part.specs.Part.{counted, recordsIn, tuplesIn, appended}
-use Rattle.partition.specs.Store.{tupleRoom, storedTuples, rowsAt}
+use Rattle.store.specs.Store.{tupleRoom, storedTuples, rowsAt}
 use Rattle.rows.specs.Join.{rowsOfPair, joinOf}
 use Rattle.sweep.specs.Pairs.{meet, pairsOf, joined}
 use Rattle.insertion.specs.Inserts.{inserted}
@@ -44,8 +44,8 @@ storeOf p ts = put ts (replicate (p .count * tupleRoom p) 0)
     put (t ∷ ts) ws = put ts (inserted p t ws)
 
 -- the rows of the join by lane: lane, label, drawing, spot, first, last
-abbrev byLane : Partitioning → List Tuple → List Tuple → List ℕ
-byLane p ds ss =
+abbrev byPartition : Partitioning → List Tuple → List Tuple → List ℕ
+byPartition p ds ss =
     gather (λ i. gather (λ (r : Row). (i + 1) ∷ rowWords r) (rowsAt p i (joined p (storeOf p ds) (storeOf p ss))))
     (below (p .count))
 
@@ -81,7 +81,7 @@ compared p = pairsOf p (storeOf p drawings) (storeOf p spots)
 
 -- a line of the example's output
 abbrev line : ℕ → ℕ → ℕ → ℕ → ℕ → ℕ → List ℕ
-line lane l d s a b = lane ∷ (l ∷ (d ∷ (s ∷ (a ∷ (b ∷ [])))))
+line partition l d s a b = partition ∷ (l ∷ (d ∷ (s ∷ (a ∷ (b ∷ [])))))
 
 -- ---- the table
 
@@ -99,7 +99,7 @@ case n c s = record { number = n; computed = c; stated = s }
 abbrev pub table : List Case
 table =
     case 1
-    (byLane three drawings spots)
+    (byPartition three drawings spots)
     (line 1 38 10 1 30 31
     ++ (line 1 38 11 1 32 32 ++ (line 2 38 10 1 33 35 ++ (line 2 38 10 2 36 40 ++ line 3 38 11 2 41 48))))
     ∷ (case 2 (ends (overlap (span 1 5) (span 5 9))) (5 ∷ (5 ∷ []))

@@ -5,17 +5,14 @@ use mathlib.Core.Option.{Option, none, some}
 use mathlib.Core.Path.{_≡_}
 use Prim.Native.Nat.{ℕ, _<_}
 use lib.ListN.{length}
-use Rattle.lists.specs.Same.{Same}
-use Rattle.interval.specs.Tuple.{sameTuple, sameRow}
 use Rattle.interval.specs.declared.tuple.Tuple.{Tuple}
 use Rattle.plan.specs.Plan.{planNumber}
 use Rattle.plan.specs.declared.Partitioning.{Partitioning}
-use Rattle.part.specs.Part.{tuplesIn, rowsIn}
-use Rattle.partition.specs.Store.{tuplePart, rowPart, tuplesAt, rowsAt}
+use Rattle.store.specs.Store.{rowPart, TuplesHeld, RowsHeld}
 use Rattle.rows.specs.Join.{joinOf}
 use Rattle.sweep.specs.Pairs.{touches}
-use Rattle.stores.specs.Stores.{Stores, fits, sound}
-use Rattle.stores.specs.declared.Answer.{Answer}
+use Rattle.checks.specs.Stores.{Stores, fits, sound}
+use Rattle.checks.specs.declared.Answer.{Answer}
 use Rattle.join.specs.Opening.{Opened}
 use Rattle.history.specs.Machine.{Call, insert, delete, sweep, repartition, Told, Machine, machineAfter}
 use Rattle.history.specs.Runs.{Run, fresh, then}
@@ -27,10 +24,9 @@ pub record Current (m : Machine) (p : Partitioning) (s : Stores) : Type 0 where
   pub in-force : p ≡ m .plan
   pub long : fits p s ≡ true
   pub all-sound : sound p s ≡ true
-  pub outer : (i : ℕ) → i < p .count → Same sameTuple (tuplesIn (tuplePart p (s .outer) i)) (tuplesAt p i (m .outer))
-  pub inner : (i : ℕ) → i < p .count → Same sameTuple (tuplesIn (tuplePart p (s .inner) i)) (tuplesAt p i (m .inner))
-  pub rows : (i : ℕ) → i < p .count
-      → Same sameRow (rowsIn (rowPart p (s .rows) i)) (rowsAt p i (joinOf (m .outer) (m .inner)))
+  pub outer : TuplesHeld p (s .outer) (m .outer)
+  pub inner : TuplesHeld p (s .inner) (m .inner)
+  pub rows : RowsHeld p (s .rows) (joinOf (m .outer) (m .inner))
 
 -- "each accepted change left untouched every rows lane that shares no minute with the changed span"
 abbrev pub Untouched : Partitioning → Tuple → List ℕ → List ℕ → Type 0

@@ -10,7 +10,7 @@ use Rattle.lists.specs.Members.{any, without}
 use Rattle.interval.specs.Tuple.{sameTuple}
 use Rattle.interval.specs.declared.time.Chronon.{Chronon}
 use Rattle.interval.specs.declared.tuple.Tuple.{Tuple}
-use Rattle.plan.specs.Plan.{recutTo}
+use Rattle.plan.specs.Plan.{withCuts}
 use Rattle.plan.specs.declared.Partitioning.{Partitioning}
 use Rattle.rows.specs.declared.Side.{Side}
 use Rattle.rows.specs.declared.Side.the-variants.{Outer, Inner}
@@ -55,7 +55,7 @@ abbrev pub accept : Call → Machine → Option Machine
 accept (insert side t) m = some (put side t m)
 accept (delete side t) m = takeOut side t m
 accept sweep m = some m
-accept (repartition new) m = some (record { plan = recutTo (m .plan) new; outer = m .outer; inner = m .inner })
+accept (repartition new) m = some (record { plan = withCuts (m .plan) new; outer = m .outer; inner = m .inner })
 
 -- "and neither does a refused call"
 abbrev pub told : Told → Machine → Option Machine

@@ -8,8 +8,8 @@ use Rattle.interval.specs.declared.time.Chronon.{Chronon}
 use Rattle.interval.specs.declared.tuple.Tuple.{Tuple}
 use Rattle.plan.specs.declared.Partitioning.{Partitioning}
 use Rattle.rows.specs.declared.Side.{Side}
-use Rattle.stores.specs.Stores.{Stores}
-use Rattle.stores.specs.declared.Answer.{Answer}
+use Rattle.checks.specs.Stores.{Stores}
+use Rattle.checks.specs.declared.Answer.{Answer}
 use Rattle.join.specs.Changes.{Inserted, Deleted}
 use Rattle.join.specs.Sweeps.{Swept}
 use Rattle.join.specs.Repartitioning.{Repartitioned}

@@ -11,12 +11,12 @@ use borrow.Author.Tests.{not-true, not-false}
 use Rattle.lists.specs.Choice.{refuseIf, firstOf}
 use Rattle.lists.proofs.Choice.{refuse-met, refuse-passed, answer-here, answer-next}
 use Rattle.interval.specs.declared.time.Chronon.{Chronon}
-use Rattle.plan.specs.Plan.{cover, numbers, recutTo}
+use Rattle.plan.specs.Plan.{cover, numbers, withCuts}
 use Rattle.plan.specs.declared.Partitioning.{Partitioning}
-use Rattle.partition.specs.Store.{tupleRoom, rowRoom}
-use Rattle.stores.specs.Stores.{Stores, stores, storeNumber, Says}
-use Rattle.stores.specs.declared.Answer.{Answer}
-use Rattle.stores.proofs.Checks.{ready, check-fails, check-holds, fails-first, fails-second, fails-third, all-hold}
+use Rattle.store.specs.Store.{tupleRoom, rowRoom}
+use Rattle.checks.specs.Stores.{Stores, stores, storeNumber, Says}
+use Rattle.checks.specs.declared.Answer.{Answer}
+use Rattle.checks.proofs.Checks.{ready, check-fails, check-holds, fails-first, fails-second, fails-third, all-hold}
 use Rattle.join.specs.Repartitioning.{emptyStore, emptyWall, repartitionNumber, Repartitioned}
 use Rattle.join.proofs.ChangeCalls.{tuples-long, rows-long}
 
@@ -117,7 +117,7 @@ module _ (p : Partitioning) (new : List Chronon) (s : Stores) (a : Answer) where
   repartition-unsound n h e ne = repartition-refused n h (answer-here _ e ne) ne
 
   pub repartition-done : (n : ℕ) (p′ : Partitioning) → Says a 0 → n ≡ repartitionNumber p new s → n ≡ 0
-      → p′ ≡ recutTo p new → Repartitioned p new s s a p′
+      → p′ ≡ withCuts p new → Repartitioned p new s s a p′
   repartition-done n p′ h e z q = record {
     number = h .0 ∙ sym z ∙ e;
     kept = refl;

@@ -2,8 +2,8 @@
 use mathlib.Core.Path.{_≡_}
 use lib.ListN.{length, replicate}
 use Rattle.plan.specs.declared.Partitioning.{Partitioning}
-use Rattle.stores.specs.Stores.{Stores, stores, openNumber}
-use Rattle.stores.specs.declared.Answer.{Answer}
+use Rattle.checks.specs.Stores.{Stores, stores, openNumber}
+use Rattle.checks.specs.declared.Answer.{Answer}
 
 -- a refusal: "both 0 on a refusal", "No refusal changes any buffer."
 pub record Refused (s s′ : Stores) (a : Answer) : Type 0 where

@@ -8,12 +8,12 @@ use lib.ListN.{take}
 use Rattle.lists.specs.Choice.{refuseIf, firstOf}
 use Rattle.lists.specs.Members.{all, below}
 use Rattle.interval.specs.declared.time.Chronon.{Chronon}
-use Rattle.plan.specs.Plan.{cover, numbers, recutTo}
+use Rattle.plan.specs.Plan.{cover, numbers, withCuts}
 use Rattle.plan.specs.declared.Partitioning.{Partitioning}
 use Rattle.part.specs.Part.{counted}
-use Rattle.partition.specs.Store.{tupleRoom, rowRoom, partitionAt}
-use Rattle.stores.specs.Stores.{Stores, storeNumber}
-use Rattle.stores.specs.declared.Answer.{Answer}
+use Rattle.store.specs.Store.{tupleRoom, rowRoom, partitionAt}
+use Rattle.checks.specs.Stores.{Stores, storeNumber}
+use Rattle.checks.specs.declared.Answer.{Answer}
 
 -- every count word of a store of n partitions of that room is 0
 unfoldable pub emptyStore : ℕ → ℕ → List ℕ → Bool
@@ -42,4 +42,4 @@ pub record Repartitioned (p : Partitioning) (new : List Chronon) (s s′ : Store
   pub changed : a .changed ≡ 0
   pub examined : a .examined ≡ 0
   pub refused : (a .number ≡ 0 → ⊥) → p′ ≡ p
-  pub accepted : a .number ≡ 0 → p′ ≡ recutTo p new
+  pub accepted : a .number ≡ 0 → p′ ≡ withCuts p new

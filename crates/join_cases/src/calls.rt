@@ -147,7 +147,7 @@ fn changed(c: Call, outer: &mut [u64], inner: &mut [u64], rows: &mut [u64]) -> L
     }
 }
 
-fn recut(c: Call, outer: &[u64], inner: &[u64], rows: &[u64]) -> Left {
+fn with_cuts(c: Call, outer: &[u64], inner: &[u64], rows: &[u64]) -> Left {
     let p = c.plan;
     let cuts = c.cuts;
     let new = join::repartition(p, cuts, outer, inner, rows);
@@ -164,7 +164,7 @@ fn call_on(c: Call, outer: &mut [u64], inner: &mut [u64], rows: &mut [u64]) -> L
     let kind = c.kind;
     match kind {
         3 => sweeps::swept(c, outer, inner, rows),
-        4 => recut(c, outer, inner, rows),
+        4 => with_cuts(c, outer, inner, rows),
         5 => sweeps::aside(c, outer, inner),
         _ => changed(c, outer, inner, rows),
     }

@@ -52,24 +52,31 @@ fn lent(
     outer: &[u64],
     inner: &[u64],
     rows: &mut [u64],
-    rcache: &mut [u64],
-    scache: &mut [u64],
+    outer_cache: &mut [u64],
+    inner_cache: &mut [u64],
 ) -> Answer {
-    if rcache.len() < a {
+    if outer_cache.len() < a {
         return calls::none();
     }
-    if scache.len() < b {
+    if inner_cache.len() < b {
         return calls::none();
     }
-    join::sweep(p, outer, inner, rows, &mut rcache[0..a], &mut scache[0..b])
+    join::sweep(
+        p,
+        outer,
+        inner,
+        rows,
+        &mut outer_cache[0..a],
+        &mut inner_cache[0..b],
+    )
 }
 
 // Takes in what must be as it was: on a refusal all words of the caches, else those that were not lent.
-fn seen(number: u64, a: u64, b: u64, rcache: &[u64], scache: &[u64]) -> u64 {
+fn seen(number: u64, a: u64, b: u64, outer_cache: &[u64], inner_cache: &[u64]) -> u64 {
     if number != 0 {
-        return digest::cache(digest::cache(0, rcache, 0), scache, 0);
+        return digest::cache(digest::cache(0, outer_cache, 0), inner_cache, 0);
     }
-    digest::cache(digest::cache(0, rcache, a), scache, b)
+    digest::cache(digest::cache(0, outer_cache, a), inner_cache, b)
 }
 
 pub(crate) fn swept(c: Call, outer: &[u64], inner: &[u64], rows: &mut [u64]) -> Left {
@@ -77,8 +84,8 @@ pub(crate) fn swept(c: Call, outer: &[u64], inner: &[u64], rows: &mut [u64]) -> 
     let k = c.caches;
     let a = k.outer;
     let b = k.inner;
-    let mut rcache = [k.outer_word; 264];
-    let mut scache = [k.inner_word; 264];
+    let mut outer_cache = [k.outer_word; 264];
+    let mut inner_cache = [k.inner_word; 264];
     let answer = lent(
         p,
         a as usize,
@@ -86,13 +93,13 @@ pub(crate) fn swept(c: Call, outer: &[u64], inner: &[u64], rows: &mut [u64]) -> 
         outer,
         inner,
         rows,
-        &mut rcache,
-        &mut scache,
+        &mut outer_cache,
+        &mut inner_cache,
     );
     Left {
         answer,
         plan: p,
-        more: seen(answer.number, a, b, &rcache, &scache),
+        more: seen(answer.number, a, b, &outer_cache, &inner_cache),
     }
 }
 

@@ -1,4 +1,4 @@
--- The loops of `partition::part`, over any list and any test.
+-- The loops of `store::part`, over any list and any test.
 -- In order: `Tallied`, k members are seen and n of them pass, with its laws; `Passed`, no member before place k passes,
 -- with its laws; `Cleared`, the words before place i are 0, with its laws.
 -- Assumes nothing.

@@ -1,4 +1,4 @@
--- The loops of `partition::plan`: `covers` goes up the cuts in use, `home` goes up them to a chronon's partition.
+-- The loops of `store::plan`: `covers` goes up the cuts in use, `home` goes up them to a chronon's partition.
 -- In order: the cuts in use; what such a loop has still to see; `Rising`, the invariant of `covers`, with its laws;
 -- `Sought`, that of `home`, with its laws.
 -- Assumes nothing.
@@ -150,7 +150,7 @@ module _ (lasts : List Chronon) (m used i : ℕ) (s : Sought lasts m used i) whe
   pub sought-end : used ≤ i → i ≡ homeOf (inUse used lasts) m
   sought-end l = omega (arith, home-end (inUse used lasts) m i (omega (arith, ends-long)))
 
--- ---- `recut`: new last chronons put into the first places, one after the other
+-- ---- `with_cuts`: new last chronons put into the first places, one after the other
 
 pub record Spliced (new old : List Chronon) (used i : ℕ) (lasts : List Chronon) : Type 0 where
   pub long : length new ≡ 64

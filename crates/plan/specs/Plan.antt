@@ -63,8 +63,8 @@ intervalOf p i = span (startOf (cutsOf p) i) (getD (cutsOf p) i 0)
 
 -- "Recut replaces the plan's last minutes, n and capacities kept"; "those beyond n are ignored, and recut keeps what the old
 -- plan has there"
-unfoldable pub recutTo : Partitioning → List Chronon → Partitioning
-recutTo p new = record {
+unfoldable pub withCuts : Partitioning → List Chronon → Partitioning
+withCuts p new = record {
   count = p .count;
   lasts = take (p .count) new ++ drop (p .count) (p .lasts);
   tuples = p .tuples;

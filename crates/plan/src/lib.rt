@@ -2,7 +2,7 @@
 // partition. Cost: at most 64 comparisons.
 ghost use mathlib.Core.Path.{_≡_};
 ghost use lib.ListN.{take};
-ghost use Rattle.plan.specs.Plan.{numbers, cover, planNumber, home, recutTo, boundsOf, boundsAt};
+ghost use Rattle.plan.specs.Plan.{numbers, cover, planNumber, home, withCuts, boundsOf, boundsAt};
 use interval::time::CALENDAR_END;
 use interval::time::Chronon;
 use interval::time::Interval;
@@ -124,8 +124,8 @@ pub fn interval_of(p: Partitioning, i: PartitionIndex) -> Bounds
 }
 
 // The plan with new last chronons in its first `count` places, and all else as it was.
-pub fn recut(p: Partitioning, new: [Chronon; 64]) -> Partitioning
-    ensures { λ r. ⌜ r ≡ recutTo p new ⌝ }
+pub fn with_cuts(p: Partitioning, new: [Chronon; 64]) -> Partitioning
+    ensures { λ r. ⌜ r ≡ withCuts p new ⌝ }
 {
     let mut lasts = p.lasts;
     let mut places = p.count;

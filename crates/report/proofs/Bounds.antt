@@ -25,11 +25,11 @@ use Rattle.plan.specs.declared.Partitioning.{Partitioning}
 use Rattle.plan.proofs.Homes.{legal-plan}
 use Rattle.part.specs.Part.{counted, rowsIn}
 use Rattle.part.proofs.Parts.{length-rows, sound-count}
-use Rattle.partition.specs.Store.{rowPart, rowAtHome, soundRowPart, storedRows}
-use Rattle.partition.proofs.Stores.{sound-rows-at, rows-at-home}
+use Rattle.store.specs.Store.{rowPart, rowAtHome, soundRowPart, storedRows}
+use Rattle.store.proofs.Stores.{sound-rows-at, rows-at-home}
 use Rattle.lines.specs.Fields.{comma, digitsOf}
 use Rattle.report.specs.Text.{lineEnd, ended, rowsBytes, rowLine, countLine}
-use Rattle.report.specs.Text.{laneText, rowCount, lanesText, textOf}
+use Rattle.report.specs.Text.{partitionText, rowCount, partitionsText, textOf}
 use Rattle.report.specs.Report.{textRoom, SortedStore}
 use Rattle.report.specs.Steps.{SoundStore}
 use Rattle.report.proofs.Digits.{digits-length}
@@ -68,9 +68,9 @@ row-count-sorted p rows rows′ s =
 
 module _ (p : Partitioning) (rows : List ℕ) (s : SoundStore p rows) where
   -- a lane holds at most 4,096 rows
-  pub lane-most : (i : ℕ) → i < p .count → counted (rowPart p rows i) ≤ 4096
+  pub partition-most : (i : ℕ) → i < p .count → counted (rowPart p rows i) ≤ 4096
   unfolding soundRowPart
-  lane-most i h =
+  partition-most i h =
       omega (
         arith,
         sound-count rowWidth (p .rows) (λ ws. rowAtHome p i (rowOf ws)) (rowPart p rows i)
@@ -84,7 +84,7 @@ module _ (p : Partitioning) (rows : List ℕ) (s : SoundStore p rows) where
       omega (
         arith,
         row-count p rows,
-        total-most (λ i. counted (rowPart p rows i)) 4096 0 (p .count) (λ j l. lane-most j (omega arith)),
+        total-most (λ i. counted (rowPart p rows i)) 4096 0 (p .count) (λ j l. partition-most j (omega arith)),
         legal-plan p (s .legal) .most,
       )
 
@@ -132,15 +132,15 @@ unfolding itemCheck
 item-most n e = ltb-false itemEnd n (refuse-none (ltb itemEnd n) 6 e)
 
 -- a legal row's line, for a lane number of at most two digits
-row-bound : (lane : ℕ) (r : Row) → lane < 100 → legalRow r ≡ true → length (rowLine lane r) ≤ 48
+row-bound : (partition : ℕ) (r : Row) → partition < 100 → legalRow r ≡ true → length (rowLine partition r) ≤ 48
 unfolding rowLine
-row-bound lane r h l =
+row-bound partition r h l =
     let legal = legal-row r l in
     let valid = valid-ok (r .valid) (legal .valid) in
     simp length-append
     (omega (
       arith,
-      digits-length 2 lane (omega arith) h,
+      digits-length 2 partition (omega arith) h,
       letters-length (r .label),
       digits-length 6 (r .outer) (omega arith) (omega (arith, item-most (r .outer) (legal .outer))),
       digits-length 6 (r .inner) (omega arith) (omega (arith, item-most (r .inner) (legal .inner))),
@@ -149,22 +149,22 @@ row-bound lane r h l =
     ))
 
 -- the lines of legal rows
-rows-bound : (lane : ℕ) (ok : Row → Bool) (rs : List Row) → lane < 100 → ((r : Row) → ok r ≡ true → legalRow r ≡ true)
-    → all ok rs ≡ true → length (gather (rowLine lane) rs) ≤ 48 * length rs
-rows-bound lane ok [] h legal e = omega arith
-rows-bound lane ok (r ∷ rs) h legal e =
+rows-bound : (partition : ℕ) (ok : Row → Bool) (rs : List Row) → partition < 100 → ((r : Row) → ok r ≡ true → legalRow r ≡ true)
+    → all ok rs ≡ true → length (gather (rowLine partition) rs) ≤ 48 * length rs
+rows-bound partition ok [] h legal e = omega arith
+rows-bound partition ok (r ∷ rs) h legal e =
     omega (
       arith,
-      length-append (rowLine lane r) (gather (rowLine lane) rs),
-      row-bound lane r h (legal r (and-left (ok r) (all ok rs) e)),
-      rows-bound lane ok rs h legal (and-right (ok r) (all ok rs) e),
+      length-append (rowLine partition r) (gather (rowLine partition) rs),
+      row-bound partition r h (legal r (and-left (ok r) (all ok rs) e)),
+      rows-bound partition ok rs h legal (and-right (ok r) (all ok rs) e),
     )
 
 module _ (p : Partitioning) (rows : List ℕ) (s : SoundStore p rows) where
-  lane-bound : (i : ℕ) → i < p .count
-      → length (laneText (i + 1) (rowPart p rows i)) ≤ 48 * counted (rowPart p rows i)
-  unfolding laneText rowAtHome
-  lane-bound i h =
+  partition-bound : (i : ℕ) → i < p .count
+      → length (partitionText (i + 1) (rowPart p rows i)) ≤ 48 * counted (rowPart p rows i)
+  unfolding partitionText rowAtHome
+  partition-bound i h =
       omega (
         arith,
         rows-bound (i + 1) (rowAtHome p i) (rowsIn (rowPart p rows i))
@@ -176,11 +176,11 @@ module _ (p : Partitioning) (rows : List ℕ) (s : SoundStore p rows) where
 
   -- the text is never longer than the room that is asked for
   pub text-bound : length (textOf p rows) ≤ textRoom (rowCount p rows)
-  unfolding textOf countLine lanesText
+  unfolding textOf countLine partitionsText
   text-bound =
       let n = rowCount p rows in
       let line = ended rowsBytes comma ++ ended (digitsOf n) lineEnd in
-      let lines : ℕ → List ℕ = λ i. laneText (i + 1) (rowPart p rows i) in
+      let lines : ℕ → List ℕ = λ i. partitionText (i + 1) (rowPart p rows i) in
       omega (
         arith,
         length-append line (gather lines (below (p .count))),
@@ -189,15 +189,15 @@ module _ (p : Partitioning) (rows : List ℕ) (s : SoundStore p rows) where
         digits-length 6 n (omega arith) (omega (arith, rows-most p rows s)),
         length-gather lines (below (p .count)),
         total-scaled (λ i. length (lines i)) (λ i. counted (rowPart p rows i)) 0 (p .count)
-            (λ j l. lane-bound j (omega arith)),
+            (λ j l. partition-bound j (omega arith)),
         row-count p rows,
       )
 
 -- the pieces of the text, as they are put
 pub text-pieces : (p : Partitioning) (rows : List ℕ)
     → textOf p rows
-    ≡ ended rowsBytes comma ++ (ended (digitsOf (rowCount p rows)) lineEnd ++ (lanesText p rows ++ []))
+    ≡ ended rowsBytes comma ++ (ended (digitsOf (rowCount p rows)) lineEnd ++ (partitionsText p rows ++ []))
 unfolding textOf countLine
 text-pieces p rows =
-    append-assoc (ended rowsBytes comma) (ended (digitsOf (rowCount p rows)) lineEnd) (lanesText p rows)
+    append-assoc (ended rowsBytes comma) (ended (digitsOf (rowCount p rows)) lineEnd) (partitionsText p rows)
     ∙ rw append-nil

@@ -15,10 +15,10 @@ use Rattle.interval.specs.declared.tuple.Row.{Row}
 use Rattle.plan.specs.Plan.{cutsOf, cover, planNumber, legalPlan, home, homeOf}
 use Rattle.plan.specs.declared.Partitioning.{Partitioning}
 use Rattle.part.specs.Part.{counted, recordsIn, rowsIn, soundPart}
-use Rattle.partition.specs.Store.{fitsRows, rowAtHome, soundRowPart, soundRows, storedRows}
+use Rattle.store.specs.Store.{fitsRows, rowAtHome, soundRowPart, soundRows, storedRows}
 use Rattle.lines.specs.Fields.{digitsOf}
 use Rattle.report.specs.Order.{before, sorted}
-use Rattle.report.specs.Text.{rowLine, countLine, laneText, lanesText, textOf}
+use Rattle.report.specs.Text.{rowLine, countLine, partitionText, partitionsText, textOf}
 use Rattle.report.specs.Report.{reportNumber}
 
 -- ---- how a case is written
@@ -37,8 +37,8 @@ plan n cuts = record {
 }
 
 -- the words of a lane with these rows
-abbrev lane : List Row → List ℕ
-lane rs = length rs ∷ (gather rowWords rs ++ replicate (10 - 5 * length rs) 0)
+abbrev partition : List Row → List ℕ
+partition rs = length rs ∷ (gather rowWords rs ++ replicate (10 - 5 * length rs) 0)
 
 -- a case: what the definitions give, and what is stated
 pub record Case : Type 0 where
@@ -55,8 +55,8 @@ three = plan 3 (34 ∷ 40 ∷ 99999999 ∷ [])
 
 abbrev rows : List ℕ
 rows =
-    lane (row 38 10 1 30 31 ∷ row 38 11 1 32 32 ∷ [])
-    ++ (lane (row 38 10 1 33 35 ∷ row 38 10 2 36 40 ∷ []) ++ lane (row 38 11 2 41 48 ∷ []))
+    partition (row 38 10 1 30 31 ∷ row 38 11 1 32 32 ∷ [])
+    ++ (partition (row 38 10 1 33 35 ∷ row 38 10 2 36 40 ∷ []) ++ partition (row 38 11 2 41 48 ∷ []))
 
 -- `rows,5`
 abbrev countFive : List ℕ
@@ -106,7 +106,7 @@ texts =
     ∷ []
 
 pub text-cases : map (λ (c : Case). c .computed) texts ≡ map (λ (c : Case). c .stated) texts
-unfolding textOf countLine lanesText laneText rowLine storedRows rowsIn recordsIn counted digitsOf lettersOf
+unfolding textOf countLine partitionsText partitionText rowLine storedRows rowsIn recordsIn counted digitsOf lettersOf
 text-cases = refl
 
 -- ---- the order and the checks
@@ -150,7 +150,7 @@ checks =
     reportNumber (plan 0 []) rows 256
     ∷ reportNumber (plan 2 (40 ∷ 40 ∷ [])) rows 256
     ∷ reportNumber three (replicate 32 0) 256
-    ∷ reportNumber three (lane (row 38 10 1 36 40 ∷ []) ++ replicate 22 0) 256
+    ∷ reportNumber three (partition (row 38 10 1 36 40 ∷ []) ++ replicate 22 0) 256
     ∷ reportNumber three rows 256
     ∷ reportNumber three rows 255
     ∷ []

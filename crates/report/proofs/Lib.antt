@@ -2,7 +2,7 @@
 -- what store and text are determined by; the checks and answers of `write`; the closed cases.
 pub mod Orders
 pub mod Arranging
-pub mod Lanes
+pub mod Partitions
 pub mod Writing
 pub mod Digits
 pub mod Bounds

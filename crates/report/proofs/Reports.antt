@@ -14,12 +14,12 @@ use Rattle.lists.proofs.Choice.{first-none, refuse-none, refuse-met, refuse-pas
 use Rattle.lists.proofs.Choice.{answer-here, answer-next, answer-last}
 use Rattle.plan.specs.Plan.{planNumber}
 use Rattle.plan.specs.declared.Partitioning.{Partitioning}
-use Rattle.partition.specs.Store.{rowRoom, fitsRows, soundRows, rowsSound}
-use Rattle.partition.proofs.StoreLoops.{fit-is}
+use Rattle.store.specs.Store.{rowRoom, fitsRows, soundRows, rowsSound}
+use Rattle.store.proofs.StoreLoops.{fit-is}
 use Rattle.report.specs.Text.{rowCount, textOf}
 use Rattle.report.specs.Report.{textRoom, reportNumber, SortedStore, ReportWritten}
 use Rattle.report.specs.Steps.{SoundStore, Put}
-use Rattle.report.proofs.Lanes.{sorted-sound}
+use Rattle.report.proofs.Partitions.{sorted-sound}
 use Rattle.report.proofs.Bounds.{row-count-sorted, text-bound}
 
 -- ---- going down the checks

@@ -116,12 +116,12 @@ afterOuter r = ended (digitsOf (r .inner)) comma ++ afterInner r
 abbrev pub afterLabel : Row → List ℕ
 afterLabel r = ended (digitsOf (r .outer)) comma ++ afterOuter r
 
-abbrev pub afterLane : Row → List ℕ
-afterLane r = ended (lettersOf (r .label)) comma ++ afterLabel r
+abbrev pub afterPartition : Row → List ℕ
+afterPartition r = ended (lettersOf (r .label)) comma ++ afterLabel r
 
-pub row-fields : (lane : ℕ) (r : Row) → rowLine lane r ≡ ended (digitsOf lane) comma ++ afterLane r
+pub row-fields : (partition : ℕ) (r : Row) → rowLine partition r ≡ ended (digitsOf partition) comma ++ afterPartition r
 unfolding rowLine
-row-fields lane r = rw (append-nil (ended (digitsOf (r .valid .last .0)) lineEnd))
+row-fields partition r = rw (append-nil (ended (digitsOf (r .valid .last .0)) lineEnd))
 
 -- the pieces made of each member from place k on
 module _ {A : Type 0} (f : A → List ℕ) (xs : List A) where
@@ -134,11 +134,11 @@ module _ {A : Type 0} (f : A → List ℕ) (xs : List A) where
 
 -- those of the numbers from i on below n
 module _ (f : ℕ → List ℕ) (n : ℕ) where
-  pub lanes-next : (i : ℕ) → i < n → gather f (upFrom i (n - i)) ≡ f i ++ gather f (upFrom (i + 1) (n - (i + 1)))
-  lanes-next i h = ap (gather f) (up-next i n h)
+  pub partitions-next : (i : ℕ) → i < n → gather f (upFrom i (n - i)) ≡ f i ++ gather f (upFrom (i + 1) (n - (i + 1)))
+  partitions-next i h = ap (gather f) (up-next i n h)
 
-  pub lanes-none : (i : ℕ) → n ≤ i → gather f (upFrom i (n - i)) ≡ []
-  lanes-none i h = ap (gather f) (up-end i n h)
+  pub partitions-none : (i : ℕ) → n ≤ i → gather f (upFrom i (n - i)) ≡ []
+  partitions-none i h = ap (gather f) (up-end i n h)
 
 -- ---- a label's letters: the first bytes of those that were written
 

@@ -11,7 +11,7 @@ use Rattle.interval.specs.Tuple.{sameRow}
 use Rattle.plan.specs.Plan.{planNumber}
 use Rattle.plan.specs.declared.Partitioning.{Partitioning}
 use Rattle.part.specs.Part.{counted, rowsIn}
-use Rattle.partition.specs.Store.{rowPart, fitsRows, soundRows}
+use Rattle.store.specs.Store.{rowPart, fitsRows, soundRows}
 use Rattle.report.specs.Order.{sorted}
 use Rattle.report.specs.Text.{rowCount, textOf}
 use Rattle.report.specs.declared.Reported.{Reported}

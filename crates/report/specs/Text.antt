@@ -8,7 +8,7 @@ use Rattle.interval.specs.Label.{lettersOf}
 use Rattle.interval.specs.declared.tuple.Row.{Row}
 use Rattle.plan.specs.declared.Partitioning.{Partitioning}
 use Rattle.part.specs.Part.{rowsIn}
-use Rattle.partition.specs.Store.{rowPart, storedRows}
+use Rattle.store.specs.Store.{rowPart, storedRows}
 use Rattle.lines.specs.Fields.{comma, digitsOf}
 
 -- the byte that ends a line
@@ -25,8 +25,8 @@ rowsBytes = 114 ∷ (111 ∷ (119 ∷ (115 ∷ [])))
 
 -- a row's line: "lane, label, drawing, spot, first, last"
 unfoldable pub rowLine : ℕ → Row → List ℕ
-rowLine lane r =
-    ended (digitsOf lane) comma
+rowLine partition r =
+    ended (digitsOf partition) comma
     ++ (ended (lettersOf (r .label)) comma
     ++ (ended (digitsOf (r .outer)) comma
     ++ (ended (digitsOf (r .inner)) comma
@@ -41,13 +41,13 @@ unfoldable pub countLine : ℕ → List ℕ
 countLine n = ended rowsBytes comma ++ ended (digitsOf n) lineEnd
 
 -- the lines of the rows of one partition, whose lane number is one more than its index
-unfoldable pub laneText : ℕ → List ℕ → List ℕ
-laneText lane part = gather (rowLine lane) (rowsIn part)
+unfoldable pub partitionText : ℕ → List ℕ → List ℕ
+partitionText partition part = gather (rowLine partition) (rowsIn part)
 
 -- the lines of all rows, partition by partition
-unfoldable pub lanesText : Partitioning → List ℕ → List ℕ
-lanesText p rows = gather (λ i. laneText (i + 1) (rowPart p rows i)) (below (p .count))
+unfoldable pub partitionsText : Partitioning → List ℕ → List ℕ
+partitionsText p rows = gather (λ i. partitionText (i + 1) (rowPart p rows i)) (below (p .count))
 
 -- the whole text: the rows stand in it as they stand in the store
 unfoldable pub textOf : Partitioning → List ℕ → List ℕ
-textOf p rows = countLine (rowCount p rows) ++ lanesText p rows
+textOf p rows = countLine (rowCount p rows) ++ partitionsText p rows

@@ -26,11 +26,11 @@ fn count_rows(p: Partitioning, rows: &[u64]) -> u64
     requires { ⌜ SoundStore p (now rows) ⌝ }
     ensures { λ r. ⌜ r ≡ rowCount p (now (rows .entry)) ⌝ }
 {
-    let room = partition::row_room(p);
+    let room = store::row_room(p);
     let mut count: u64 = 0;
     let mut i: u64 = 0;
     while i < p.count {
-        count += part::count(partition::partition(rows, room, PartitionIndex(i)));
+        count += part::count(store::partition(rows, room, PartitionIndex(i)));
         i += 1;
     }
     count
@@ -44,7 +44,7 @@ fn report_number(p: Partitioning, rows: &[u64], room: usize) -> u64
     if number != 0 {
         return number;
     }
-    if !partition::fits_rows(p, rows.len()) {
+    if !store::fits_rows(p, rows.len()) {
         return 4;
     }
     if !soundness::sound_rows(p, rows) {

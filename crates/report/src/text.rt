@@ -6,7 +6,7 @@ ghost use Rattle.interval.specs.Label.{lettersOf};
 ghost use Rattle.interval.specs.Tuple.{rowWidth};
 ghost use Rattle.part.specs.Part.{roomOf, counted};
 ghost use Rattle.lines.specs.Fields.{comma, digitsOf};
-ghost use Rattle.report.specs.Text.{ended, rowLine, laneText, lanesText, textOf};
+ghost use Rattle.report.specs.Text.{ended, rowLine, partitionText, partitionsText, textOf};
 ghost use Rattle.report.specs.Steps.{SoundStore, Put};
 use interval::tuple::Row;
 use plan::PartitionIndex;
@@ -57,11 +57,11 @@ fn put_label(out: &mut [u8], at: usize, label: u64) -> usize
 }
 
 // Puts a row's line.
-fn put_row(out: &mut [u8], at: usize, lane: u64, row: Row) -> usize
-    requires { ⌜ at + length (rowLine lane row) ≤ length (now out) ⌝ }
-    ensures { λ r. ⌜ Put at (rowLine lane row) (now (out .entry)) (now (out .exit)) r ⌝ }
+fn put_row(out: &mut [u8], at: usize, partition: u64, row: Row) -> usize
+    requires { ⌜ at + length (rowLine partition row) ≤ length (now out) ⌝ }
+    ensures { λ r. ⌜ Put at (rowLine partition row) (now (out .entry)) (now (out .exit)) r ⌝ }
 {
-    let label = put_number(out, at, lane, 44);
+    let label = put_number(out, at, partition, 44);
     let drawing = put_label(out, label, row.label);
     let spot = put_number(out, drawing, row.outer, 44);
     let first = put_number(out, spot, row.inner, 44);
@@ -70,36 +70,36 @@ fn put_row(out: &mut [u8], at: usize, lane: u64, row: Row) -> usize
 }
 
 // Puts the lines of a partition's rows.
-fn put_lane(out: &mut [u8], at: usize, lane: u64, part: &[u64]) -> usize
+fn put_partition(out: &mut [u8], at: usize, partition: u64, part: &[u64]) -> usize
     requires { ⌜ roomOf rowWidth (counted (now part)) ≤ length (now part) ⌝ }
-    requires { ⌜ at + length (laneText lane (now part)) ≤ length (now out) ⌝ }
-    ensures { λ r. ⌜ Put at (laneText lane (now (part .entry))) (now (out .entry)) (now (out .exit)) r ⌝ }
+    requires { ⌜ at + length (partitionText partition (now part)) ≤ length (now out) ⌝ }
+    ensures { λ r. ⌜ Put at (partitionText partition (now (part .entry))) (now (out .entry)) (now (out .exit)) r ⌝ }
 {
     let n = part::count(part) as usize;
     let mut next = at;
     let mut k: usize = 0;
     while k < n {
-        next = put_row(out, next, lane, part::row_at(part, k));
+        next = put_row(out, next, partition, part::row_at(part, k));
         k += 1;
     }
     next
 }
 
 // Puts the lines of all rows, lane by lane; lanes are counted from 1.
-fn put_lanes(p: Partitioning, rows: &[u64], out: &mut [u8], at: usize) -> usize
+fn put_partitions(p: Partitioning, rows: &[u64], out: &mut [u8], at: usize) -> usize
     requires { ⌜ SoundStore p (now rows) ⌝ }
-    requires { ⌜ at + length (lanesText p (now rows)) ≤ length (now out) ⌝ }
-    ensures { λ r. ⌜ Put at (lanesText p (now (rows .entry))) (now (out .entry)) (now (out .exit)) r ⌝ }
+    requires { ⌜ at + length (partitionsText p (now rows)) ≤ length (now out) ⌝ }
+    ensures { λ r. ⌜ Put at (partitionsText p (now (rows .entry))) (now (out .entry)) (now (out .exit)) r ⌝ }
 {
-    let room = partition::row_room(p);
+    let room = store::row_room(p);
     let mut next = at;
     let mut i: u64 = 0;
     while i < p.count {
-        next = put_lane(
+        next = put_partition(
             out,
             next,
             i + 1,
-            partition::partition(rows, room, PartitionIndex(i)),
+            store::partition(rows, room, PartitionIndex(i)),
         );
         i += 1;
     }
@@ -114,5 +114,5 @@ pub(crate) fn put_report(p: Partitioning, rows: &[u64], out: &mut [u8]) -> usize
 {
     let word = put_bytes(out, 0, b"rows,");
     let next = put_number(out, word, crate::count_rows(p, rows), 10);
-    put_lanes(p, rows, out, next)
+    put_partitions(p, rows, out, next)
 }

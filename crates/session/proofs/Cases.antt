@@ -12,10 +12,10 @@ use Rattle.interval.specs.Label.{labelCheck}
 use Rattle.interval.specs.Tuple.{tupleNumber, itemCheck, validCheck}
 use Rattle.plan.specs.Plan.{cutsOf, cover, planNumber, legalPlan, home, homeOf}
 use Rattle.part.specs.Part.{counted, soundPart, recordsIn, tuplesIn, rowsIn}
-use Rattle.partition.specs.Store.{fitsTuples, fitsRows, soundTuples, soundRows, soundTuplePart, soundRowPart}
-use Rattle.partition.specs.Store.{storedTuples, rowsAt}
+use Rattle.store.specs.Store.{fitsTuples, fitsRows, soundTuples, soundRows, soundTuplePart, soundRowPart}
+use Rattle.store.specs.Store.{storedTuples, rowsAt}
 use Rattle.rows.specs.Join.{madeWith}
-use Rattle.stores.specs.Stores.{Stores, stores, fitsAll, lengthsNumber, storeNumber, sound}
+use Rattle.checks.specs.Stores.{Stores, stores, fitsAll, lengthsNumber, storeNumber, sound}
 use Rattle.insertion.specs.Changes.{made}
 use Rattle.insertion.specs.Inserts.{overfull}
 use Rattle.join.specs.Changes.{insertNumber, deleteNumber}

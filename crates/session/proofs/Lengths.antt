@@ -18,12 +18,12 @@ use Rattle.plan.specs.Plan.{home}
 use Rattle.plan.specs.declared.Partitioning.{Partitioning}
 use Rattle.part.specs.Part.{appended, removed, placeOfTuple}
 use Rattle.part.proofs.Parts.{length-appended, length-removed}
-use Rattle.partition.specs.Store.{tupleRoom, tuplePart, onPartition}
-use Rattle.partition.proofs.Stores.{on-length, partition-length}
+use Rattle.store.specs.Store.{tupleRoom, tuplePart, onPartition}
+use Rattle.store.proofs.Stores.{on-length, partition-length}
 use Rattle.rows.specs.declared.Side.{Side}
 use Rattle.rows.specs.declared.Side.the-variants.{Outer, Inner}
-use Rattle.stores.specs.Stores.{Stores, storeNumber}
-use Rattle.stores.specs.declared.Answer.{Answer}
+use Rattle.checks.specs.Stores.{Stores, storeNumber}
+use Rattle.checks.specs.declared.Answer.{Answer}
 use Rattle.insertion.specs.Changes.{Checked}
 use Rattle.insertion.specs.Inserts.{inserted}
 use Rattle.insertion.proofs.Sites.{at-within}

@@ -26,10 +26,10 @@ use Rattle.interval.specs.declared.tuple.Tuple.{Tuple}
 use Rattle.plan.specs.Plan.{legalPlan, planNumber}
 use Rattle.plan.specs.declared.Partitioning.{Partitioning}
 use Rattle.plan.proofs.Homes.{plan-legal-test}
-use Rattle.partition.specs.Store.{tupleRoom, rowRoom, fitsTuples, fitsRows, storedTuples, storedRows}
+use Rattle.store.specs.Store.{tupleRoom, rowRoom, fitsTuples, fitsRows, storedTuples, storedRows}
 use Rattle.rows.specs.declared.Side.{Side}
 use Rattle.rows.specs.declared.Side.the-variants.{Outer, Inner}
-use Rattle.stores.specs.Stores.{Stores, fitsAll, sound, lengthsNumber, openNumber, storeNumber}
+use Rattle.checks.specs.Stores.{Stores, fitsAll, sound, lengthsNumber, openNumber, storeNumber}
 use Rattle.insertion.specs.Changes.{made}
 use Rattle.insertion.specs.Inserts.{full, overfull}
 use Rattle.deletion.specs.Deletes.{lacks}
@@ -40,7 +40,7 @@ use Rattle.lines.specs.declared.Word.the-variants.{DrawIn, DrawOut, SpotIn, Spo
 use Rattle.lines.specs.declared.Line.{Line}
 use Rattle.lines.specs.declared.Line.the-variants.{Lane, Change, Malformed}
 use Rattle.lines.proofs.Printed.{line-change-bounds}
-use Rattle.session.specs.Session.{planOf, withLane, usedTuples, usedRows, EightLanes, wallOf, badLane}
+use Rattle.session.specs.Session.{planOf, withLane, usedTuples, usedRows, EightPartitions, wallOf, badLane}
 use Rattle.session.specs.Session.{laneCheck, laneNumber, callNumber, changeNumber, stepNumber}
 use Rattle.session.specs.declared.Session.{Session}
 use Rattle.session.proofs.Lanes.{lane-passed}
@@ -59,7 +59,7 @@ unfolding fitsRows
 fits-rows p n l e =
     and-both (legalPlan p) (eqb n (p .count * rowRoom p)) (plan-legal-test p l) (eq-eqb n (p .count * rowRoom p) e)
 
-module _ (s : Session) (S : Stores) (g : Good s) (done : s .complete ≡ true) (y : EightLanes S) where
+module _ (s : Session) (S : Stores) (g : Good s) (done : s .complete ≡ true) (y : EightPartitions S) where
   abbrev wall : Stores
   wall = wallOf s S
 
@@ -128,7 +128,7 @@ changeNumbers = 0 ∷ (7 ∷ (8 ∷ (9 ∷ (10 ∷ (11 ∷ (12 ∷ (16 ∷ [])))
 
 -- ---- a lane line
 
-module _ (s : Session) (m : Chronon) (S : Stores) (g : Good s) (y : EightLanes S) where
+module _ (s : Session) (m : Chronon) (S : Stores) (g : Good s) (y : EightPartitions S) where
   -- its own checks
   check-met : among laneNumbers (laneCheck s (m .0)) ≡ true
   unfolding laneCheck
@@ -220,7 +220,7 @@ module _ (ok : ℕ → Bool) (more : (n : ℕ) → among changeNumbers n ≡ tru
       guarded-ok ok (s .complete) 15 (callNumber w (planOf s) t (wallOf s S)) (more 0 refl) (more 16 refl)
       (λ c. call-met (planOf s) t (wallOf s S) l (e c) w)
 
-module _ (s : Session) (w : Word) (t : Tuple) (S : Stores) (g : Good s) (y : EightLanes S)
+module _ (s : Session) (w : Word) (t : Tuple) (S : Stores) (g : Good s) (y : EightPartitions S)
     (l : labelCheck (t .label) ≡ 0) where
   -- on any wall: 5 too
   pub change-met : among (5 ∷ changeNumbers) (changeNumber s w t S) ≡ true
@@ -255,7 +255,7 @@ Labelled (Lane m) = Unit {0}
 Labelled (Change w t) = labelCheck (t .label) ≡ 0
 Labelled Malformed = Unit {0}
 
-pub step-met : (s : Session) (line : Line) (S : Stores) → Good s → EightLanes S → Labelled line
+pub step-met : (s : Session) (line : Line) (S : Stores) → Good s → EightPartitions S → Labelled line
     → among stepNumbers (stepNumber s line S) ≡ true
 step-met s (Lane m) S g y l = among-more laneNumbers stepNumbers refl (laneNumber s m S) (lane-met s m S g y)
 step-met s (Change w t) S g y l =
@@ -265,8 +265,8 @@ step-met s Malformed S g y l = refl
 -- ---- every line that a session from `fresh` reads
 
 -- stores as long as roomy ones
-pub eight-lanes-as : (S S′ : Stores) → SameLong S S′ → EightLanes S → EightLanes S′
-eight-lanes-as S S′ l y = record {
+pub eight-partitions-as : (S S′ : Stores) → SameLong S S′ → EightPartitions S → EightPartitions S′
+eight-partitions-as S S′ l y = record {
   outer = omega (arith, l .outer, y .outer);
   inner = omega (arith, l .inner, y .inner);
   rows = omega (arith, l .rows, y .rows);
@@ -281,7 +281,7 @@ labelled-by Malformed h = tt
 pub labelled : (bs : List ℕ) → Labelled (lineOf bs)
 labelled bs = labelled-by (lineOf bs) (λ w t e. line-change-bounds bs w t e .label)
 
-pub numbers-met : {S₀ : Stores} {s : Session} {S : Stores} → EightLanes S₀ → Reached S₀ s S → (bs : List ℕ)
+pub numbers-met : {S₀ : Stores} {s : Session} {S : Stores} → EightPartitions S₀ → Reached S₀ s S → (bs : List ℕ)
     → among stepNumbers (stepNumber s (lineOf bs) S) ≡ true
 numbers-met {S₀ = S₀} {s = s} {S = S} y x bs =
-    step-met s (lineOf bs) S (reached-good x) (eight-lanes-as S₀ S (reached-long x) y) (labelled bs)
+    step-met s (lineOf bs) S (reached-good x) (eight-partitions-as S₀ S (reached-long x) y) (labelled bs)

@@ -18,7 +18,7 @@ use Rattle.plan.specs.Plan.{cutsOf, cover, planNumber}
 use Rattle.plan.proofs.Homes.{le-or-lt, readAt}
 use Rattle.plan.proofs.Homes.{plan-legal as legal-number}
 use Rattle.plan.proofs.PlanLoops.{Rising, rising-start, rising-step, rising-end}
-use Rattle.stores.specs.Stores.{Stores}
+use Rattle.checks.specs.Stores.{Stores}
 use Rattle.lines.specs.declared.Line.{Line}
 use Rattle.lines.specs.declared.Line.the-variants.{Lane, Change, Malformed}
 use Rattle.session.specs.Session.{fresh, planOf, withLane, lastCut, laneCheck, laneNumber, stepNumber, sessionWith}

@@ -12,8 +12,8 @@ use borrow.Author.Tests.{ne-eqb}
 use Rattle.lists.specs.Choice.{firstOf}
 use Rattle.interval.specs.declared.tuple.Tuple.{Tuple}
 use Rattle.plan.specs.Plan.{legalPlan}
-use Rattle.partition.specs.Store.{fitsTuples, fitsRows}
-use Rattle.stores.specs.Stores.{Stores, fitsAll, lengthsNumber, openNumber, storeNumber}
+use Rattle.store.specs.Store.{fitsTuples, fitsRows}
+use Rattle.checks.specs.Stores.{Stores, fitsAll, lengthsNumber, openNumber, storeNumber}
 use Rattle.join.specs.Changes.{insertNumber, deleteNumber}
 use Rattle.lines.specs.declared.Word.{Word}
 use Rattle.lines.specs.declared.Word.the-variants.{DrawIn, DrawOut, SpotIn, SpotOut}

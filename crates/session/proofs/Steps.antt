@@ -10,7 +10,7 @@ use Rattle.lists.proofs.Choice.{pick-same, pick-true, pick-false, answer-here, 
 use Rattle.interval.specs.Time.{calendarEnd}
 use Rattle.interval.specs.declared.time.Chronon.{Chronon}
 use Rattle.interval.specs.declared.tuple.Tuple.{Tuple}
-use Rattle.stores.specs.Stores.{Stores}
+use Rattle.checks.specs.Stores.{Stores}
 use Rattle.lines.specs.declared.Word.{Word}
 use Rattle.lines.specs.declared.Line.{Line}
 use Rattle.lines.specs.declared.Line.the-variants.{Lane, Change, Malformed}

@@ -13,10 +13,10 @@ use Rattle.interval.specs.declared.time.Chronon.{Chronon}
 use Rattle.interval.specs.declared.tuple.Tuple.{Tuple}
 use Rattle.plan.specs.Plan.{numbers}
 use Rattle.plan.specs.declared.Partitioning.{Partitioning}
-use Rattle.partition.specs.Store.{tupleRoom, rowRoom}
+use Rattle.store.specs.Store.{tupleRoom, rowRoom}
 use Rattle.rows.specs.declared.Side.the-variants.{Outer, Inner}
-use Rattle.stores.specs.Stores.{Stores, stores, openNumber}
-use Rattle.stores.specs.declared.Answer.{Answer}
+use Rattle.checks.specs.Stores.{Stores, stores, openNumber}
+use Rattle.checks.specs.declared.Answer.{Answer}
 use Rattle.join.specs.Opening.{blank}
 use Rattle.join.specs.Changes.{insertNumber, Inserted, deleteNumber, Deleted}
 use Rattle.lines.specs.declared.Word.{Word}
@@ -56,18 +56,18 @@ withLane s m = record {
 
 -- ---- the words in use: the first of each lent store, as many as the plan's lanes need, or all where there are fewer
 
-abbrev pub usedLanes : Session → ℕ
-usedLanes s = min (s .lanes) lanesMost
+abbrev pub usedPartitions : Session → ℕ
+usedPartitions s = min (s .lanes) lanesMost
 
 -- 129 words a lane, and 321
 abbrev pub usedTuples : Session → ℕ
-usedTuples s = usedLanes s * tupleRoom (planOf s)
+usedTuples s = usedPartitions s * tupleRoom (planOf s)
 
 abbrev pub usedRows : Session → ℕ
-usedRows s = usedLanes s * rowRoom (planOf s)
+usedRows s = usedPartitions s * rowRoom (planOf s)
 
 -- lent stores that have the words of 8 lanes, as the program's have
-pub record EightLanes (S : Stores) : Type 0 where
+pub record EightPartitions (S : Stores) : Type 0 where
   pub outer : 8 * 129 ≤ length (S .outer)
   pub inner : 8 * 129 ≤ length (S .inner)
   pub rows : 8 * 321 ≤ length (S .rows)

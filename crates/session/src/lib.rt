@@ -7,10 +7,10 @@ ghost use mathlib.Core.Path.{_≡_};
 ghost use Prim.Native.Nat.{min};
 ghost use lib.Dec.{ltb};
 ghost use Rattle.lists.specs.Choice.{pick};
-ghost use Rattle.stores.specs.Stores.{stores};
+ghost use Rattle.checks.specs.Stores.{stores};
 ghost use Rattle.lines.specs.Line.{lineOf};
 ghost use Rattle.lines.specs.declared.Line.the-variants.{Lane};
-ghost use Rattle.session.specs.Session.{fresh, planOf, withLane, usedLanes, usedTuples, usedRows};
+ghost use Rattle.session.specs.Session.{fresh, planOf, withLane, usedPartitions, usedTuples, usedRows};
 ghost use Rattle.session.specs.Session.{laneCheck, Called, WallOpening, WallChanging, SteppedBy};
 use interval::time::CALENDAR_END;
 use interval::time::Chronon;
@@ -62,8 +62,8 @@ pub fn plan_of(s: Session) -> Partitioning
 }
 
 // The lanes whose words are in use: at most 8.
-fn used_lanes(s: Session) -> usize
-    ensures { λ r. ⌜ r ≡ usedLanes s ⌝ }
+fn used_partitions(s: Session) -> usize
+    ensures { λ r. ⌜ r ≡ usedPartitions s ⌝ }
 {
     if s.lanes < 8 {
         return s.lanes as usize;
@@ -75,7 +75,7 @@ fn used_lanes(s: Session) -> usize
 pub fn used_tuples(s: Session, len: usize) -> usize
     ensures { λ r. ⌜ r ≡ min (usedTuples s) len ⌝ }
 {
-    let used = used_lanes(s) * 129;
+    let used = used_partitions(s) * 129;
     if len < used {
         return len;
     }
@@ -86,7 +86,7 @@ pub fn used_tuples(s: Session, len: usize) -> usize
 pub fn used_rows(s: Session, len: usize) -> usize
     ensures { λ r. ⌜ r ≡ min (usedRows s) len ⌝ }
 {
-    let used = used_lanes(s) * 321;
+    let used = used_partitions(s) * 321;
     if len < used {
         return len;
     }

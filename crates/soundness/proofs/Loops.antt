@@ -22,8 +22,8 @@ use Rattle.plan.specs.Plan.{cutsOf, home, startOf}
 use Rattle.plan.specs.declared.Partitioning.{Partitioning}
 use Rattle.plan.proofs.Homes.{LegalPlan, home-test, start-next as cut-after}
 use Rattle.part.specs.Part.{roomOf, counted, recordsIn, soundPart}
-use Rattle.partition.specs.Store.{tupleAtHome, rowAtHome}
-use Rattle.partition.proofs.StoreLoops.{Turn, below-start, lent, lent-is}
+use Rattle.store.specs.Store.{tupleAtHome, rowAtHome}
+use Rattle.store.proofs.StoreLoops.{Turn, below-start, lent, lent-is}
 use Rattle.soundness.specs.Between.{tupleBetween, rowBetween}
 
 -- ---- a test of every record: those from k on decide

@@ -1,4 +1,4 @@
-// Check 5: whether a store is sound. What a sound store is stands in crate partition, specs/Store.antt.
+// Check 5: whether a store is sound. What a sound store is stands in crate store, specs/Store.antt.
 // Each word is read once: two comparisons say that a record belongs to its partition, and eight words of a tail are
 // tested for 0 at a time.
 ghost use mathlib.Core.Path.{_≡_};
@@ -9,7 +9,7 @@ ghost use Rattle.lists.specs.Members.{all};
 ghost use Rattle.lists.specs.Words.{partAt, zeros, recordsOf};
 ghost use Rattle.interval.specs.Tuple.{tupleWidth, tupleOf, rowWidth, rowOf};
 ghost use Rattle.part.specs.Part.{roomOf, soundPart};
-ghost use Rattle.partition.specs.Store.{tuplesSound, rowsSound};
+ghost use Rattle.store.specs.Store.{tuplesSound, rowsSound};
 ghost use Rattle.soundness.specs.Between.{tupleBetween, rowBetween};
 use interval::tuple::Row;
 use interval::tuple::Tuple;
@@ -147,11 +147,11 @@ fn sound_row_part(part: &[u64], capacity: usize, first: u64, last: u64) -> bool
 pub fn sound_tuples(p: Partitioning, store: &[u64]) -> bool
     ensures { λ r. ⌜ r ≡ tuplesSound p (now (store .entry)) ⌝ }
 {
-    if !partition::fits_tuples(p, store.len()) {
+    if !store::fits_tuples(p, store.len()) {
         return false;
     }
     let lasts = p.lasts;
-    let room = partition::tuple_room(p);
+    let room = store::tuple_room(p);
     let mut first: u64 = 0;
     let mut at: usize = 0;
     let mut i: u64 = 0;
@@ -172,11 +172,11 @@ pub fn sound_tuples(p: Partitioning, store: &[u64]) -> bool
 pub fn sound_rows(p: Partitioning, store: &[u64]) -> bool
     ensures { λ r. ⌜ r ≡ rowsSound p (now (store .entry)) ⌝ }
 {
-    if !partition::fits_rows(p, store.len()) {
+    if !store::fits_rows(p, store.len()) {
         return false;
     }
     let lasts = p.lasts;
-    let room = partition::row_room(p);
+    let room = store::row_room(p);
     let mut first: u64 = 0;
     let mut at: usize = 0;
     let mut i: u64 = 0;

@@ -14,7 +14,7 @@ use Rattle.interval.specs.Tuple.{sameInterval, sameTuple}
 use Rattle.interval.specs.declared.tuple.Tuple.{Tuple}
 use Rattle.plan.specs.Plan.{cutsOf, homeOf, home}
 use Rattle.plan.specs.declared.Partitioning.{Partitioning}
-use Rattle.partition.specs.Store.{rowsAt}
+use Rattle.store.specs.Store.{rowsAt}
 use Rattle.rows.specs.Join.{rowsOfPair, joinOf}
 use Rattle.history.specs.Machine.{Told, Machine, machineAfter}
 use Rattle.lines.specs.Fields.{isNumber, valueOf, digitsOf}

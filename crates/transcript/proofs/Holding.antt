@@ -17,9 +17,9 @@ use Rattle.interval.specs.Time.{calendarEnd}
 use Rattle.interval.specs.declared.time.Chronon.{Chronon}
 use Rattle.interval.specs.declared.tuple.Tuple.{Tuple}
 use Rattle.plan.specs.declared.Partitioning.{Partitioning}
-use Rattle.stores.specs.Stores.{Stores, openNumber}
+use Rattle.checks.specs.Stores.{Stores, openNumber}
 use Rattle.join.specs.Opening.{Opened}
-use Rattle.stores.specs.declared.Answer.{Answer}
+use Rattle.checks.specs.declared.Answer.{Answer}
 use Rattle.history.specs.Machine.{Call, Told, Machine, told, machineAfter}
 use Rattle.history.specs.Runs.{Step, inserted, deleted}
 use Rattle.history.specs.KeptCurrent.{Untouched, Owed}

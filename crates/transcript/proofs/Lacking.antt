@@ -25,11 +25,11 @@ use Rattle.interval.proofs.Tuples.{same-tuple-is, same-row-is}
 use Rattle.plan.specs.Plan.{home}
 use Rattle.plan.specs.declared.Partitioning.{Partitioning}
 use Rattle.part.specs.Part.{timesOfRow}
-use Rattle.partition.specs.Store.{storedTuples, storedRows, rowsAt}
+use Rattle.store.specs.Store.{storedTuples, storedRows, rowsAt}
 use Rattle.rows.specs.declared.Side.{Side}
 use Rattle.rows.specs.declared.Side.the-variants.{Outer, Inner}
 use Rattle.rows.proofs.JoinsStored.{made-within}
-use Rattle.stores.specs.Stores.{Stores, storeNumber}
+use Rattle.checks.specs.Stores.{Stores, storeNumber}
 use Rattle.insertion.specs.Changes.{made}
 use Rattle.insertion.specs.Inserts.{full, overfull}
 use Rattle.deletion.specs.Deletes.{lacks}

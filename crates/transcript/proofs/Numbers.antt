@@ -11,18 +11,18 @@ use Rattle.lists.specs.Members.{all}
 use Rattle.lists.proofs.Choice.{and-both}
 use Rattle.interval.specs.Label.{labelCheck}
 use Rattle.interval.specs.declared.tuple.Tuple.{Tuple}
-use Rattle.stores.specs.Stores.{Stores, sound, storeNumber}
+use Rattle.checks.specs.Stores.{Stores, sound, storeNumber}
 use Rattle.history.specs.Machine.{Told}
 use Rattle.history.proofs.Kept.{kept-current-now}
 use Rattle.lines.specs.Line.{lineOf}
 use Rattle.lines.specs.declared.Word.{Word}
 use Rattle.lines.specs.declared.Line.{Line}
 use Rattle.lines.specs.declared.Line.the-variants.{Lane, Change, Malformed}
-use Rattle.session.specs.Session.{EightLanes, planOf, wallOf, laneNumber, changeNumber, stepNumber}
+use Rattle.session.specs.Session.{EightPartitions, planOf, wallOf, laneNumber, changeNumber, stepNumber}
 use Rattle.session.specs.declared.Session.{Session}
 use Rattle.session.proofs.Reached.{Good, reached-good}
 use Rattle.session.proofs.Lengths.{reached-long}
-use Rattle.session.proofs.Numbers.{eight-lanes-as, wall-open, guarded-ok, among-more, laneNumbers, lane-met}
+use Rattle.session.proofs.Numbers.{eight-partitions-as, wall-open, guarded-ok, among-more, laneNumbers, lane-met}
 use Rattle.session.proofs.Numbers.{changeNumbers, change-sound, Labelled, labelled}
 use Rattle.transcript.specs.Transcript.{Transcript, begun, then}
 use Rattle.transcript.specs.SessionKept.{numbersMet, isMet}
@@ -31,7 +31,7 @@ use Rattle.transcript.proofs.Holding.{Holding, reached, holding}
 
 -- ---- a change
 
-module _ (s : Session) (w : Word) (t : Tuple) (S : Stores) (ts : List Told) (g : Good s) (y : EightLanes S)
+module _ (s : Session) (w : Word) (t : Tuple) (S : Stores) (ts : List Told) (g : Good s) (y : EightPartitions S)
     (l : labelCheck (t .label) ≡ 0) (h : Holding ts s S) where
   -- never 5: a complete plan's wall is sound
   wall-sound : s .complete ≡ true → sound (planOf s) (wallOf s S) ≡ true
@@ -57,18 +57,18 @@ module _ (s : Session) (w : Word) (t : Tuple) (S : Stores) (ts : List Told) (g :
 
 -- ---- a line, and every line
 
-line-is : (s : Session) (line : Line) (S : Stores) (ts : List Told) → Good s → EightLanes S → Labelled line → Holding ts s S
+line-is : (s : Session) (line : Line) (S : Stores) (ts : List Told) → Good s → EightPartitions S → Labelled line → Holding ts s S
     → isMet (stepNumber s line S) ≡ true
 line-is s (Lane m) S ts g y l h = among-more laneNumbers numbersMet refl (laneNumber s m S) (lane-met s m S g y)
 line-is s (Change w t) S ts g y l h = change-is s w t S ts g y l h
 line-is s Malformed S ts g y l h = refl
 
-pub all-met : {S₀ : Stores} {ns : List ℕ} {ts : List Told} {s : Session} {S : Stores} → EightLanes S₀
+pub all-met : {S₀ : Stores} {ns : List ℕ} {ts : List Told} {s : Session} {S : Stores} → EightPartitions S₀
     → Transcript S₀ ns ts s S → all isMet ns ≡ true
 all-met y begun = refl
 all-met {S₀ = S₀} y (then {ns = ns} {ts = ts} {s = s} {S = S} {r = r} bytes x b) =
     and-both (isMet (r .number)) (all isMet ns)
     (ap isMet (b .number)
-    ∙ line-is s (lineOf bytes) S ts (reached-good (reached x)) (eight-lanes-as S₀ S (reached-long (reached x)) y)
+    ∙ line-is s (lineOf bytes) S ts (reached-good (reached x)) (eight-partitions-as S₀ S (reached-long (reached x)) y)
     (labelled bytes) (holding x))
     (all-met y x)

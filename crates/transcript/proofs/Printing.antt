@@ -19,13 +19,13 @@ use Rattle.interval.proofs.Tuples.{same-row-is}
 use Rattle.plan.specs.Plan.{home}
 use Rattle.plan.specs.declared.Partitioning.{Partitioning}
 use Rattle.part.specs.Part.{rowsIn}
-use Rattle.partition.specs.Store.{rowPart, storedTuples, storedRows, rowsAt}
+use Rattle.store.specs.Store.{rowPart, storedTuples, storedRows, rowsAt}
 use Rattle.rows.specs.Join.{joinOf}
 use Rattle.rows.specs.declared.Side.the-variants.{Outer}
 use Rattle.rows.proofs.Joins.{join-outer-more, join-same, join-empty-left}
 use Rattle.rows.proofs.JoinsStored.{made-within}
 use Rattle.history.proofs.Held.{TuplesHeld, RowsHeld}
-use Rattle.report.specs.Text.{rowLine, countLine, laneText, lanesText, textOf, rowCount}
+use Rattle.report.specs.Text.{rowLine, countLine, partitionText, partitionsText, textOf, rowCount}
 use Rattle.report.specs.Report.{SortedStore}
 use Rattle.report.proofs.Orders.{sorted-unique}
 use Rattle.transcript.specs.Rows.{sortRows, laneLines, printedRows}
@@ -71,7 +71,7 @@ module _ (p : Partitioning) (rows rows′ : List ℕ) (rs : List Row) (h : RowsH
       (same-split sameRow (λ r. home p (rowTo r)) (p .count) rs here))
 
   pub text-is : textOf p rows′ ≡ printedRows p rs
-  unfolding textOf lanesText laneText printedRows laneLines
+  unfolding textOf partitionsText partitionText printedRows laneLines
   text-is =
       ap₂ _++_ (ap countLine count-is)
       (gather-cong-below _ _ (p .count) (λ i l. ap (gather (rowLine (i + 1))) (lane-is i l)))

@@ -11,9 +11,9 @@ use Rattle.interval.specs.Tuple.{rowWidth, rowOf}
 use Rattle.plan.specs.declared.Partitioning.{Partitioning}
 use Rattle.part.specs.Part.{counted}
 use Rattle.part.proofs.Parts.{sound-count}
-use Rattle.partition.specs.Store.{rowPart, rowAtHome, fitsTuples, fitsRows, soundRowPart, soundRows}
-use Rattle.partition.proofs.Stores.{sound-rows-at}
-use Rattle.stores.specs.Stores.{Stores, fitsAll, fits}
+use Rattle.store.specs.Store.{rowPart, rowAtHome, fitsTuples, fitsRows, soundRowPart, soundRows}
+use Rattle.store.proofs.Stores.{sound-rows-at}
+use Rattle.checks.specs.Stores.{Stores, fitsAll, fits}
 use Rattle.history.specs.Machine.{Machine}
 use Rattle.history.proofs.Kept.{Kept, kept-current-now}
 use Rattle.report.specs.Text.{rowCount}

@@ -8,7 +8,7 @@ use mathlib.Core.Path.{_≡_, sym, _∙_, ap}
 use Prim.Native.Nat.{ℕ, _≤_}
 use lib.ListN.{length, drop}
 use Rattle.rows.specs.Join.{joinOf}
-use Rattle.stores.specs.Stores.{Stores}
+use Rattle.checks.specs.Stores.{Stores}
 use Rattle.history.specs.Machine.{Told, Machine, machineAfter}
 use Rattle.history.proofs.Kept.{Kept, kept-current-now}
 use Rattle.report.specs.Text.{textOf}

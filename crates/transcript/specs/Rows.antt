@@ -6,7 +6,7 @@ use Rattle.lists.specs.Choice.{pick}
 use Rattle.lists.specs.Members.{gather, below}
 use Rattle.interval.specs.declared.tuple.Row.{Row}
 use Rattle.plan.specs.declared.Partitioning.{Partitioning}
-use Rattle.partition.specs.Store.{rowsAt}
+use Rattle.store.specs.Store.{rowsAt}
 use Rattle.report.specs.Order.{before}
 use Rattle.report.specs.Text.{rowLine, countLine}
 

@@ -10,7 +10,7 @@ use Rattle.lists.specs.Members.{all, any}
 use Rattle.interval.specs.declared.tuple.Row.{Row}
 use Rattle.plan.specs.declared.Partitioning.{Partitioning}
 use Rattle.rows.specs.Join.{joinOf}
-use Rattle.stores.specs.Stores.{Stores}
+use Rattle.checks.specs.Stores.{Stores}
 use Rattle.history.specs.Machine.{Told, Machine, machineAfter}
 use Rattle.history.specs.KeptCurrent.{Current, Untouched}
 use Rattle.report.specs.Report.{textRoom, reportNumber, ReportWritten}
@@ -18,7 +18,7 @@ use Rattle.report.specs.declared.Reported.{Reported}
 use Rattle.lines.specs.Line.{lineOf}
 use Rattle.lines.specs.declared.Line.{Line}
 use Rattle.lines.specs.declared.Line.the-variants.{Lane, Change, Malformed}
-use Rattle.session.specs.Session.{EightLanes, planOf, wallOf}
+use Rattle.session.specs.Session.{EightPartitions, planOf, wallOf}
 use Rattle.session.specs.declared.Session.{Session}
 use Rattle.transcript.specs.Transcript.{Transcript, begun, then}
 use Rattle.transcript.specs.Rows.{printedRows}
@@ -72,5 +72,5 @@ pub record LinesKept {S₀ : Stores} {ns : List ℕ} {ts : List Told} {s : Sessi
 -- words of 8 lanes (1,032, 1,032 and 2,568)
 abbrev pub SessionKept : Type 0
 SessionKept =
-    (S₀ : Stores) → EightLanes S₀
+    (S₀ : Stores) → EightPartitions S₀
     → (ns : List ℕ) (ts : List Told) (s : Session) (S : Stores) (x : Transcript S₀ ns ts s S) → LinesKept x

@@ -4,7 +4,7 @@ use mathlib.Core.List.{List, [], _∷_}
 use Prim.Native.Nat.{ℕ}
 use Rattle.interval.specs.declared.tuple.Tuple.{Tuple}
 use Rattle.rows.specs.declared.Side.the-variants.{Outer, Inner}
-use Rattle.stores.specs.Stores.{Stores}
+use Rattle.checks.specs.Stores.{Stores}
 use Rattle.history.specs.Machine.{Call, insert, delete, Told}
 use Rattle.lines.specs.Line.{lineOf}
 use Rattle.lines.specs.declared.Word.{Word}

@@ -2,7 +2,7 @@
 -- words say.
 -- Assumes nothing.
 use mathlib.Core.Path.{_≡_, refl}
-use Rattle.stores.specs.Stores.{stores}
+use Rattle.checks.specs.Stores.{stores}
 use Rattle.join.specs.Changes.{Deleted}
 use Rattle.exports.specs.Exports.{planIn, sideOf, tupleFrom, lengthsAre}
 use Rattle.exports.proofs.Exporting.{deleted-said}

@@ -1,7 +1,7 @@
 -- `exports::ruthgarwy_open` meets its contract: lengths, then `join::open` with the plan that the words say.
 -- Assumes nothing.
 use mathlib.Core.Path.{_≡_, refl}
-use Rattle.stores.specs.Stores.{stores}
+use Rattle.checks.specs.Stores.{stores}
 use Rattle.join.specs.Opening.{Opened}
 use Rattle.exports.specs.Exports.{planIn, lengthsAre}
 use Rattle.exports.proofs.Exporting.{opened-said}

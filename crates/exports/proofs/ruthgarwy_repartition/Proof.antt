@@ -5,7 +5,7 @@ use mathlib.Core.Bool.{Bool, _&&_}
 use mathlib.Core.Path.{_≡_, refl, _∙_}
 use lib.Dec.{eqb}
 use lib.ListN.{length, length-map}
-use Rattle.stores.specs.Stores.{stores}
+use Rattle.checks.specs.Stores.{stores}
 use Rattle.join.specs.Repartitioning.{Repartitioned}
 use Rattle.exports.specs.Exports.{minutes, planIn, lengthsAre}
 use Rattle.exports.proofs.Words.{minutes-whole}

@@ -1,7 +1,7 @@
 -- `exports::ruthgarwy_sweep` meets its contract: lengths, then `join::sweep` with the plan that the words say.
 -- Assumes nothing.
 use mathlib.Core.Path.{_≡_, refl}
-use Rattle.stores.specs.Stores.{stores}
+use Rattle.checks.specs.Stores.{stores}
 use Rattle.join.specs.Sweeps.{Swept}
 use Rattle.exports.specs.Exports.{planIn, lengthsAre}
 use Rattle.exports.proofs.Exporting.{swept-said}
@@ -14,8 +14,8 @@ returns : tie.Need-returns
 returns c =
     let a = c .before .before .before .before .before .before .before .before .args in
     let s = stores (a .outer .now) (a .inner .now) (a .rows .now) in
-    let c₀ = a .rcache .now in
-    let d₀ = a .scache .now in
+    let c₀ = a .outer-cache .now in
+    let d₀ = a .inner-cache .now in
     exported-refused {Kept = (a .rows .now ≡ a .rows .now) × (c₀ ≡ c₀) × (d₀ ≡ d₀)}
     {Done = λ r. Swept (planIn (a .plan .now)) s c₀ d₀ s c₀ d₀ r}
     (lengthsAre (a .plan .now) (a .answer .now)) (a .answer .now)
@@ -25,8 +25,8 @@ returns-2 : tie.Need-returns-2
 returns-2 c =
     let a = c .before .before .before .before .before .before .before .before .before .args in
     let s = stores (a .outer .now) (a .inner .now) (a .rows .now) in
-    let c₀ = a .rcache .now in
-    let d₀ = a .scache .now in
+    let c₀ = a .outer-cache .now in
+    let d₀ = a .inner-cache .now in
     exported-refused {Kept = (a .rows .now ≡ a .rows .now) × (c₀ ≡ c₀) × (d₀ ≡ d₀)}
     {Done = λ r. Swept (planIn (a .plan .now)) s c₀ d₀ s c₀ d₀ r}
     (lengthsAre (a .plan .now) (a .answer .now)) (a .answer .now)
@@ -62,13 +62,13 @@ returns-3 c =
     let s = stores (a .outer .now) (a .inner .now) (a .rows .now) in
     let o = called .sweep .last .1 .1 .1 in
     let s′ = stores (a .outer .now) (a .inner .now) (o .0) in
-    exported-called {Kept = (o .0 ≡ a .rows .now) × (o .1 .0 ≡ a .rcache .now) × (o .1 .1 .0 ≡ a .scache .now)}
-    {Done = λ r. Swept (planIn (a .plan .now)) s (a .rcache .now) (a .scache .now) s′ (o .1 .0) (o .1 .1 .0) r}
+    exported-called {Kept = (o .0 ≡ a .rows .now) × (o .1 .0 ≡ a .outer-cache .now) × (o .1 .1 .0 ≡ a .inner-cache .now)}
+    {Done = λ r. Swept (planIn (a .plan .now)) s (a .outer-cache .now) (a .inner-cache .now) s′ (o .1 .0) (o .1 .1 .0) r}
     (lengthsAre (a .plan .now) (a .answer .now)) (a .answer .now) (c .before .before .tell .last .1 .0)
     (c .before .before .tell .result) (called .sweep .result)
     (lengths-right (a .plan .now) (a .answer .now) (passed .before .if1 .left) (passed .if2 .left))
     (c .before .before .tell .ensures)
-    (swept-said (plan .plan-in .result) (planIn (a .plan .now)) s (a .rcache .now) (a .scache .now) s′
+    (swept-said (plan .plan-in .result) (planIn (a .plan .now)) s (a .outer-cache .now) (a .inner-cache .now) s′
     (o .1 .0) (o .1 .1 .0) (called .sweep .result) (plan .plan-in .ensures) (called .sweep .ensures))
 
 pub ruthgarwy-sweep-spec : {M : Type 1} → statement M

@@ -4,8 +4,8 @@ use mathlib.Core.Path.{_≡_, sym, ap, _∙_}
 use Prim.Native.Nat.{_-_}
 use native.Mathlib.Omega.{arith}
 use Rattle.part.specs.Part.{counted}
-use Rattle.partition.specs.Store.{rowPart}
-use Rattle.report.proofs.Lanes.{lane-inside, lane-room}
+use Rattle.store.specs.Store.{rowPart}
+use Rattle.report.proofs.Partitions.{partition-inside, partition-room}
 use Rattle.report.proofs.Bounds.{row-count, rows-most, CountedTo}
 use Rattle.report.proofs.Bounds.{counted-start, counted-most, counted-more, counted-all}
 use Rattle.report.proofs.count_rows.Statement.{statement}
@@ -18,17 +18,17 @@ abbrev μ-loop : tie.MeasureT-loop
 μ-loop p rows room count₀ i₀ count i = p .count - i
 
 -- the part that is lent is lane i, and what is counted there is its rows
-lane-is : (c : tie.After-partition Inv-loop μ-loop)
+partition-is : (c : tie.After-partition Inv-loop μ-loop)
     → (let at = c .before .before .before .loop in
     let a = c .before .before .before .before .before .before .args in
     c .partition .result .now ≡ rowPart (a .p) (a .rows .now) (at .i))
-lane-is c = rw (c .before .before .before .before .row-room .ensures) at (c .partition .ensures)
+partition-is c = rw (c .before .before .before .before .row-room .ensures) at (c .partition .ensures)
 
-lane-count : (c : tie.After-count Inv-loop μ-loop)
+partition-count : (c : tie.After-count Inv-loop μ-loop)
     → (let at = c .before .before .before .before .loop in
     let a = c .before .before .before .before .before .before .before .args in
     c .count .result ≡ counted (rowPart (a .p) (a .rows .now) (at .i)))
-lane-count c = c .count .ensures ∙ ap counted (lane-is (c .before))
+partition-count c = c .count .ensures ∙ ap counted (partition-is (c .before))
 
 row-room-requires : tie.Need-row-room-requires Inv-loop μ-loop
 row-room-requires c κs = c .before .pre .legal
@@ -43,14 +43,14 @@ partition-requires c κs =
     let at = c .before .before in
     let s = at .before .before .before in
     rw (at .before .row-room .ensures)
-    (lane-inside (s .args .p) (s .args .rows .now) (s .pre) (at .loop .i) (c .if1 .taken))
+    (partition-inside (s .args .p) (s .args .rows .now) (s .pre) (at .loop .i) (c .if1 .taken))
 
 count-requires : tie.Need-count-requires Inv-loop μ-loop
 count-requires c κs =
     let at = c .before .before .before in
     let s = at .before .before .before in
-    rw (lane-is c)
-    (omega (arith, lane-room (s .args .p) (s .args .rows .now) (s .pre) (at .loop .i) (c .before .if1 .taken)))
+    rw (partition-is c)
+    (omega (arith, partition-room (s .args .p) (s .args .rows .now) (s .pre) (at .loop .i) (c .before .if1 .taken)))
 
 add-count : tie.Need-add-count Inv-loop μ-loop
 add-count c =
@@ -60,7 +60,7 @@ add-count c =
     let a = s .args in
     omega (
       arith,
-      lane-count c,
+      partition-count c,
       counted-most (λ i. counted (rowPart (a .p) (a .rows .now) i)) (a .p .count) (at .loop .i) (at .loop .count)
           (turn .if1 .taken) (at .loop .inv),
       row-count (a .p) (a .rows .now),
@@ -78,7 +78,7 @@ loop-again c =
     let turn = c .before .before in
     let at = turn .before .before in
     let a = at .before .before .before .args in
-    rw (lane-count c)
+    rw (partition-count c)
     (counted-more (λ i. counted (rowPart (a .p) (a .rows .now) i)) (a .p .count) (at .loop .i) (at .loop .count)
     (turn .if1 .taken) (at .loop .inv))
 

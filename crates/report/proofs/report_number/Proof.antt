@@ -6,7 +6,7 @@ use native.Mathlib.Omega.{arith}
 use borrow.Author.Tests.{not-true, not-false}
 use lib.ListN.{length}
 use Rattle.plan.specs.Plan.{planNumber}
-use Rattle.partition.specs.Store.{fitsRows, soundRows}
+use Rattle.store.specs.Store.{fitsRows, soundRows}
 use Rattle.report.specs.Steps.{SoundStore}
 use Rattle.report.proofs.Bounds.{rows-most}
 use Rattle.report.proofs.Reports.{refuses-plan, refuses-length, refuses-unsound, refuses-buffer, passes}

@@ -1,6 +1,6 @@
 -- `session::call` meets its contract: one call of the join for each word.
 -- Assumes nothing.
-use Rattle.stores.specs.Stores.{stores}
+use Rattle.checks.specs.Stores.{stores}
 use Rattle.session.proofs.Walls.{called-as}
 use borrow.Author.Needs.{needs}
 use Rattle.session.proofs.call.Statement.{statement}

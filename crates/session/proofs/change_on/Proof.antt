@@ -2,7 +2,7 @@
 -- and put back.
 -- Assumes nothing.
 use borrow.Author.Tests.{not-true, not-false}
-use Rattle.stores.specs.Stores.{stores}
+use Rattle.checks.specs.Stores.{stores}
 use Rattle.session.specs.Session.{usedTuples, usedRows}
 use Rattle.session.proofs.Walls.{lent-long, change-early, wall-changing}
 use borrow.Author.Needs.{needs}

@@ -1,7 +1,7 @@
 -- `session::step` meets its contract: the line is read, and then its value is worked on.
 -- Assumes nothing.
 use mathlib.Core.Path.{sym}
-use Rattle.stores.specs.Stores.{stores}
+use Rattle.checks.specs.Stores.{stores}
 use Rattle.lines.specs.Line.{lineOf}
 use Rattle.session.proofs.Steps.{step-as}
 use borrow.Author.Needs.{needs}

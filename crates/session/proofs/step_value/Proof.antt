@@ -1,6 +1,6 @@
 -- `session::step_value` meets its contract: a lane line, a change, or neither.
 -- Assumes nothing.
-use Rattle.stores.specs.Stores.{stores}
+use Rattle.checks.specs.Stores.{stores}
 use Rattle.session.proofs.Steps.{stepped, step-as, change-step, malformed-step}
 use borrow.Author.Needs.{needs}
 use Rattle.session.proofs.step_value.Statement.{statement}

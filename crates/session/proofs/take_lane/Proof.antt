@@ -1,7 +1,7 @@
 -- `session::take_lane` meets its contract: the session with the lane, the checks, and the wall opened where the plan is
 -- complete.
 -- Assumes nothing.
-use Rattle.stores.specs.Stores.{stores}
+use Rattle.checks.specs.Stores.{stores}
 use Rattle.session.proofs.Steps.{lane-refused, lane-between, lane-unopened, lane-completing}
 use borrow.Author.Needs.{needs}
 use Rattle.session.proofs.take_lane.Statement.{statement}

@@ -5,8 +5,8 @@ use borrow.Author.Needs.{needs}
 use Rattle.session.proofs.used_tuples.Statement.{statement}
 use Rattle.session.proofs.used_tuples.Tie as tie
 
-used-lanes-requires : tie.Need-used-lanes-requires
-used-lanes-requires c κs = search needs
+used-partitions-requires : tie.Need-used-partitions-requires
+used-partitions-requires c κs = search needs
 
 mul-used : tie.Need-mul-used
 mul-used c = omega arith
@@ -18,4 +18,4 @@ returns-2 : tie.Need-returns-2
 returns-2 c = omega arith
 
 pub used-tuples-spec : {M : Type 1} → statement M
-used-tuples-spec = tie.close (tie.spec used-lanes-requires mul-used returns returns-2)
+used-tuples-spec = tie.close (tie.spec used-partitions-requires mul-used returns returns-2)

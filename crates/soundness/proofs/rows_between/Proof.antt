@@ -13,7 +13,7 @@ use Rattle.lists.specs.Words.{recordsOf, recordAt}
 use Rattle.interval.specs.Tuple.{rowWidth, rowOf}
 use Rattle.part.specs.Part.{rowAt}
 use Rattle.soundness.specs.Between.{rowBetween}
-use Rattle.partition.proofs.StoreLoops.{Turn}
+use Rattle.store.proofs.StoreLoops.{Turn}
 use Rattle.soundness.proofs.Loops.{records-turn, records-end}
 use Rattle.soundness.proofs.rows_between.Statement.{statement}
 use Rattle.soundness.proofs.rows_between.Tie as tie

@@ -12,9 +12,9 @@ use Rattle.lists.specs.Members.{all, below, upFrom}
 use Rattle.interval.specs.Tuple.{rowWidth, rowOf}
 use Rattle.part.specs.Part.{roomOf}
 use Rattle.plan.specs.Plan.{planNumber, cutsOf}
-use Rattle.partition.specs.Store.{rowRoom, rowPart, rowAtHome, fitsRows, soundRowPart, soundRows, rowsSound}
+use Rattle.store.specs.Store.{rowRoom, rowPart, rowAtHome, fitsRows, soundRowPart, soundRows, rowsSound}
 use Rattle.plan.proofs.Homes.{LegalPlan, legal-plan, length-cuts, cut-at, cut-most}
-use Rattle.partition.proofs.StoreLoops.{Turn, below-turn, below-end, lent-room, fit-is}
+use Rattle.store.proofs.StoreLoops.{Turn, below-turn, below-end, lent-room, fit-is}
 use Rattle.soundness.specs.Between.{rowBetween}
 use Rattle.soundness.proofs.Loops.{Checked, checked-start, checked-room, checked-next}
 use Rattle.soundness.proofs.Loops.{part-answer, row-between-home}

@@ -12,10 +12,10 @@ use Rattle.lists.specs.Members.{all, below, upFrom}
 use Rattle.interval.specs.Tuple.{tupleWidth, tupleOf}
 use Rattle.part.specs.Part.{roomOf}
 use Rattle.plan.specs.Plan.{planNumber, cutsOf}
-use Rattle.partition.specs.Store.{tupleRoom, tuplePart, tupleAtHome, fitsTuples}
-use Rattle.partition.specs.Store.{soundTuplePart, soundTuples, tuplesSound}
+use Rattle.store.specs.Store.{tupleRoom, tuplePart, tupleAtHome, fitsTuples}
+use Rattle.store.specs.Store.{soundTuplePart, soundTuples, tuplesSound}
 use Rattle.plan.proofs.Homes.{LegalPlan, legal-plan, length-cuts, cut-at, cut-most}
-use Rattle.partition.proofs.StoreLoops.{Turn, below-turn, below-end, lent-room, fit-is}
+use Rattle.store.proofs.StoreLoops.{Turn, below-turn, below-end, lent-room, fit-is}
 use Rattle.soundness.specs.Between.{tupleBetween}
 use Rattle.soundness.proofs.Loops.{Checked, checked-start, checked-room, checked-next}
 use Rattle.soundness.proofs.Loops.{part-answer, tuple-between-home}

@@ -13,7 +13,7 @@ use Rattle.lists.specs.Words.{recordsOf, recordAt}
 use Rattle.interval.specs.Tuple.{tupleWidth, tupleOf}
 use Rattle.part.specs.Part.{tupleAt}
 use Rattle.soundness.specs.Between.{tupleBetween}
-use Rattle.partition.proofs.StoreLoops.{Turn}
+use Rattle.store.proofs.StoreLoops.{Turn}
 use Rattle.soundness.proofs.Loops.{records-turn, records-end}
 use Rattle.soundness.proofs.tuples_between.Statement.{statement}
 use Rattle.soundness.proofs.tuples_between.Tie as tie

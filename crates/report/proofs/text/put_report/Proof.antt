@@ -6,7 +6,7 @@ use Prim.Native.Nat.{ℕ, _+_, _≤_}
 use native.Mathlib.Nat.{zero-add}
 use lib.ListN.{length}
 use Rattle.lines.specs.Fields.{comma, digitsOf}
-use Rattle.report.specs.Text.{lineEnd, ended, rowsBytes, rowCount, lanesText, textOf}
+use Rattle.report.specs.Text.{lineEnd, ended, rowsBytes, rowCount, partitionsText, textOf}
 use Rattle.report.proofs.Writing.{Left, left-start, left-room, left-more, left-end, left-as}
 use Rattle.report.proofs.Bounds.{text-pieces}
 use borrow.Author.Needs.{needs}
@@ -21,7 +21,7 @@ TextLeft s at left now = Left 0 (textOf (s .args .p) (s .args .rows .now)) (s .a
 abbrev afterWord : tie.Start → List ℕ
 afterWord s =
     let a = s .args in
-    ended (digitsOf (rowCount (a .p) (a .rows .now))) lineEnd ++ (lanesText (a .p) (a .rows .now) ++ [])
+    ended (digitsOf (rowCount (a .p) (a .rows .now))) lineEnd ++ (partitionsText (a .p) (a .rows .now) ++ [])
 
 fits : (s : tie.Start) → 0 + length (textOf (s .args .p) (s .args .rows .now)) ≤ length (s .args .out .now)
 fits s = rw zero-add (s .pre .1)
@@ -48,19 +48,19 @@ count-left : (c : tie.After-count-rows)
     → (let w = c .before .before .before .before in
     let s = w .before .before .before .before .before in
     TextLeft s (w .put-bytes .result)
-    (ended (digitsOf (c .count-rows .result)) lineEnd ++ (lanesText (s .args .p) (s .args .rows .now) ++ []))
+    (ended (digitsOf (c .count-rows .result)) lineEnd ++ (partitionsText (s .args .p) (s .args .rows .now) ++ []))
     (w .put-bytes .last .0))
 count-left c = rw (c .count-rows .ensures) (word-put (c .before .before .before .before))
 
 count-put : (c : tie.After-put-number)
     → (let s = c .before .before .before .before .before .before .before .before .before .before in
-    TextLeft s (c .put-number .result) (lanesText (s .args .p) (s .args .rows .now) ++ []) (c .put-number .last .0))
+    TextLeft s (c .put-number .result) (partitionsText (s .args .p) (s .args .rows .now) ++ []) (c .put-number .last .0))
 count-put c =
     let w = c .before .before .before .before .before in
     let s = w .before .before .before .before .before in
     let a = s .args in
     left-more 0 (textOf (a .p) (a .rows .now)) (a .out .now) (fits s) (w .put-bytes .result) (w .put-bytes .last .0)
-    (ended (digitsOf (c .before .count-rows .result)) lineEnd) (lanesText (a .p) (a .rows .now) ++ []) _ _
+    (ended (digitsOf (c .before .count-rows .result)) lineEnd) (partitionsText (a .p) (a .rows .now) ++ []) _ _
     (count-left (c .before)) (c .put-number .ensures)
 
 slice-aggregate-put-bytes : tie.Need-slice-aggregate-put-bytes
@@ -83,16 +83,16 @@ put-number-requires c κs =
     let s = w .before .before .before .before .before in
     let a = s .args in
     left-room 0 (textOf (a .p) (a .rows .now)) (a .out .now) (fits s) (w .put-bytes .result) (w .put-bytes .last .0)
-    (ended (digitsOf (c .count-rows .result)) lineEnd) (lanesText (a .p) (a .rows .now) ++ []) (count-left c)
+    (ended (digitsOf (c .count-rows .result)) lineEnd) (partitionsText (a .p) (a .rows .now) ++ []) (count-left c)
 
-put-lanes-requires : tie.Need-put-lanes-requires
-put-lanes-requires c κs =
+put-partitions-requires : tie.Need-put-partitions-requires
+put-partitions-requires c κs =
     let n = c .before .before .before in
     let s = n .before .before .before .before .before .before .before .before .before .before in
     let a = s .args in (
       s .pre .0,
       left-room 0 (textOf (a .p) (a .rows .now)) (a .out .now) (fits s) (n .put-number .result) (n .put-number .last .0)
-          (lanesText (a .p) (a .rows .now)) [] (count-put n),
+          (partitionsText (a .p) (a .rows .now)) [] (count-put n),
     )
 
 same-length : tie.Need-same-length
@@ -105,7 +105,7 @@ returns c =
     let a = s .args in
     left-end 0 (textOf (a .p) (a .rows .now)) (a .out .now) (fits s) _ _
     (left-more 0 (textOf (a .p) (a .rows .now)) (a .out .now) (fits s) (n .put-number .result) (n .put-number .last .0)
-    (lanesText (a .p) (a .rows .now)) [] _ _ (count-put n) (c .before .before .put-lanes .ensures))
+    (partitionsText (a .p) (a .rows .now)) [] _ _ (count-put n) (c .before .before .put-partitions .ensures))
 
 pub put-report-spec : {M : Type 1} → statement M
 put-report-spec =
@@ -115,6 +115,6 @@ put-report-spec =
     put-bytes-requires
     count-rows-requires
     put-number-requires
-    put-lanes-requires
+    put-partitions-requires
     same-length
     returns)

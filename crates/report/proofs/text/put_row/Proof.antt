@@ -8,7 +8,7 @@ use Rattle.lines.specs.Fields.{comma, digitsOf}
 use Rattle.report.specs.Text.{lineEnd, ended, rowLine}
 use Rattle.report.specs.Steps.{Put}
 use Rattle.report.proofs.Writing.{Left, left-start, left-room, left-more, left-end, left-as, row-fields}
-use Rattle.report.proofs.Writing.{afterLane, afterLabel, afterOuter, afterInner, afterFirst}
+use Rattle.report.proofs.Writing.{afterPartition, afterLabel, afterOuter, afterInner, afterFirst}
 use borrow.Author.Needs.{needs}
 use Rattle.report.proofs.text.put_row.Statement.{statement}
 use Rattle.report.proofs.text.put_row.Tie as tie
@@ -16,27 +16,27 @@ use Rattle.report.proofs.text.put_row.Tie as tie
 -- the line with `left` still to put from place `at` on
 abbrev LineLeft : tie.Start → ℕ → List ℕ → List ℕ → Type 0
 LineLeft s at left now =
-    Left (s .args .at) (rowLine (s .args .lane) (s .args .row)) (s .args .out .now) at left now
+    Left (s .args .at) (rowLine (s .args .partition) (s .args .row)) (s .args .out .now) at left now
 
 -- the next field has room; it was put
 room : (s : tie.Start) (at : ℕ) (field rest now : List ℕ) → LineLeft s at (field ++ rest) now
     → at + length field ≤ length now
 room s at field rest now l =
     let a = s .args in
-    left-room (a .at) (rowLine (a .lane) (a .row)) (a .out .now) (s .pre) at now field rest l
+    left-room (a .at) (rowLine (a .partition) (a .row)) (a .out .now) (s .pre) at now field rest l
 
 more : (s : tie.Start) (at : ℕ) (field rest now now′ : List ℕ) (next : ℕ) → LineLeft s at (field ++ rest) now
     → Put at field now now′ next → LineLeft s next rest now′
 more s at field rest now now′ next l p =
     let a = s .args in
-    left-more (a .at) (rowLine (a .lane) (a .row)) (a .out .now) (s .pre) at now field rest now′ next l p
+    left-more (a .at) (rowLine (a .partition) (a .row)) (a .out .now) (s .pre) at now field rest now′ next l p
 
 -- the function's entry, from each call
-abbrev lane-start : tie.After-put-number → tie.Start
-lane-start c = c .before .before .before
+abbrev partition-start : tie.After-put-number → tie.Start
+partition-start c = c .before .before .before
 
 abbrev label-start : tie.After-put-label → tie.Start
-label-start c = lane-start (c .before .before .before .before)
+label-start c = partition-start (c .before .before .before .before)
 
 abbrev outer-start : tie.After-put-number2 → tie.Start
 outer-start c = label-start (c .before .before .before .before)
@@ -49,18 +49,18 @@ first-start c = inner-start (c .before .before .before .before)
 
 -- before the first field, and after each but the last
 none-put : (s : tie.Start)
-    → LineLeft s (s .args .at) (ended (digitsOf (s .args .lane)) comma ++ afterLane (s .args .row)) (s .args .out .now)
+    → LineLeft s (s .args .at) (ended (digitsOf (s .args .partition)) comma ++ afterPartition (s .args .row)) (s .args .out .now)
 none-put s =
     let a = s .args in
-    left-as (a .at) (rowLine (a .lane) (a .row)) (a .out .now) (a .at) (a .out .now) _ _ (row-fields (a .lane) (a .row))
-    (left-start (a .at) (rowLine (a .lane) (a .row)) (a .out .now))
+    left-as (a .at) (rowLine (a .partition) (a .row)) (a .out .now) (a .at) (a .out .now) _ _ (row-fields (a .partition) (a .row))
+    (left-start (a .at) (rowLine (a .partition) (a .row)) (a .out .now))
 
-lane-put : (c : tie.After-put-number)
-    → LineLeft (lane-start c) (c .put-number .result) (afterLane (lane-start c .args .row)) (c .put-number .last .0)
-lane-put c =
-    let s = lane-start c in
+partition-put : (c : tie.After-put-number)
+    → LineLeft (partition-start c) (c .put-number .result) (afterPartition (partition-start c .args .row)) (c .put-number .last .0)
+partition-put c =
+    let s = partition-start c in
     let a = s .args in
-    more s (a .at) (ended (digitsOf (a .lane)) comma) (afterLane (a .row)) (a .out .now) _ _ (none-put s)
+    more s (a .at) (ended (digitsOf (a .partition)) comma) (afterPartition (a .row)) (a .out .now) _ _ (none-put s)
     (c .put-number .ensures)
 
 label-put : (c : tie.After-put-label)
@@ -70,7 +70,7 @@ label-put c =
     let a = s .args in
     let b = c .before .before .before .before in
     more s (b .put-number .result) (ended (lettersOf (a .row .label)) comma) (afterLabel (a .row))
-    (b .put-number .last .0) _ _ (lane-put b) (c .put-label .ensures)
+    (b .put-number .last .0) _ _ (partition-put b) (c .put-label .ensures)
 
 outer-put : (c : tie.After-put-number2)
     → LineLeft (outer-start c) (c .put-number2 .result) (afterOuter (outer-start c .args .row))
@@ -106,14 +106,14 @@ put-number-requires : tie.Need-put-number-requires
 put-number-requires c κs =
     let s = c .before .before in
     let a = s .args in
-    room s (a .at) (ended (digitsOf (a .lane)) comma) (afterLane (a .row)) (a .out .now) (none-put s)
+    room s (a .at) (ended (digitsOf (a .partition)) comma) (afterPartition (a .row)) (a .out .now) (none-put s)
 
 put-label-requires : tie.Need-put-label-requires
 put-label-requires c κs =
     let b = c .before .before .before in
-    let a = lane-start b .args in
-    room (lane-start b) (b .put-number .result) (ended (lettersOf (a .row .label)) comma) (afterLabel (a .row))
-    (b .put-number .last .0) (lane-put b)
+    let a = partition-start b .args in
+    room (partition-start b) (b .put-number .result) (ended (lettersOf (a .row .label)) comma) (afterLabel (a .row))
+    (b .put-number .last .0) (partition-put b)
 
 put-number-requires-2 : tie.Need-put-number-requires-2
 put-number-requires-2 c κs =
@@ -152,7 +152,7 @@ returns c =
     let b = c .before .before .before .before .before .before in
     let s = first-start b in
     let a = s .args in
-    left-end (a .at) (rowLine (a .lane) (a .row)) (a .out .now) (s .pre) _ _
+    left-end (a .at) (rowLine (a .partition) (a .row)) (a .out .now) (s .pre) _ _
     (more s (b .put-number4 .result) (ended (digitsOf (a .row .valid .last .0)) lineEnd) []
     (b .put-number4 .last .0) _ _
     (first-put b) (c .before .before .put-number5 .ensures))
