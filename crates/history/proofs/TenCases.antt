@@ -8,7 +8,7 @@ use lib.ListN.{length, replicate}
 use Rattle.lists.specs.Members.{gather, without, below}
 use Rattle.interval.specs.Time.{span, overlap}
 use Rattle.interval.specs.Label.{rank, labelNumber}
-use Rattle.interval.specs.Tuple.{sameInterval, sameTuple, rowWords}
+use Rattle.interval.specs.Tuple.{tuple, sameInterval, sameTuple, rowWords}
 use Rattle.interval.specs.declared.time.Interval.{Interval}
 use Rattle.interval.specs.declared.tuple.Tuple.{Tuple}
 use Rattle.interval.specs.declared.tuple.Row.{Row}
@@ -21,10 +21,6 @@ use Rattle.sweep.specs.Pairs.{meet, pairsOf, joined}
 use Rattle.insertion.specs.Inserts.{inserted}
 
 -- ---- how a case is written
-
--- label, item, first, last
-abbrev tuple : ℕ → ℕ → ℕ → ℕ → Tuple
-tuple l n a b = record { label = l; item = n; valid = span a b }
 
 -- a plan with these cuts
 abbrev plan : ℕ → List ℕ → Partitioning

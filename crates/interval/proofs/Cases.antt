@@ -9,7 +9,7 @@ use Prim.Native.Nat.{ℕ}
 use Rattle.lists.specs.Choice.{firstOf}
 use Rattle.interval.specs.Time.{calendarEnd, span, contains, overlap}
 use Rattle.interval.specs.Label.{labelEnd, rank, isLetter, isLabel, labelNumber, numberOrNone, labelCheck, lettersOf}
-use Rattle.interval.specs.Tuple.{itemCheck, validCheck, tupleNumber, legalTuple, rowNumber, legalRow}
+use Rattle.interval.specs.Tuple.{tuple, row, itemCheck, validCheck, tupleNumber, legalTuple, rowNumber, legalRow}
 use Rattle.interval.specs.Tuple.{sameInterval, sameTuple, sameRow, tupleWords, tupleOf, rowWords, rowOf}
 use Rattle.interval.specs.declared.time.Interval.{Interval}
 use Rattle.interval.specs.declared.tuple.Tuple.{Tuple}
@@ -97,9 +97,6 @@ past-labels = (refl, refl)
 
 -- a tuple of four words, and its number: legal at both ends of each range, and each check at its first illegal value;
 -- the first check that applies answers
-abbrev tuple : ℕ → ℕ → ℕ → ℕ → Tuple
-tuple label item first last = record { label = label; item = item; valid = span first last }
-
 checks : List (Tuple × ℕ)
 checks =
     (tuple 1 0 0 0, 0)
@@ -124,9 +121,6 @@ unfolding checks Checks firstOf labelCheck itemCheck validCheck tupleNumber
 checks-hold = (refl, (refl, (refl, (refl, (refl, (refl, (refl, (refl, (refl, (refl, (refl, tt)))))))))))
 
 -- a row is legal by its label, both numbers and its span
-abbrev row : ℕ → ℕ → ℕ → ℕ → ℕ → Row
-row label outer inner first last = record { label = label; outer = outer; inner = inner; valid = span first last }
-
 rows-hold :
     (legalRow (row 1 999999 999999 0 99999999) ≡ true)
     × (legalRow (row 0 1 1 0 0) ≡ false)

@@ -30,26 +30,27 @@ rowTo r = r .valid .last .0
 abbrev pub tupleWidth : ℕ
 tupleWidth = 4
 
+abbrev pub tuple : ℕ → ℕ → ℕ → ℕ → Tuple
+tuple label item first last = record { label = label; item = item; valid = span first last }
+
 abbrev pub tupleWords : Tuple → List ℕ
 tupleWords t = t .label ∷ (t .item ∷ (t .valid .first .0 ∷ (t .valid .last .0 ∷ [])))
 
 abbrev pub tupleOf : List ℕ → Tuple
-tupleOf ws = record { label = getD ws 0 0; item = getD ws 1 0; valid = span (getD ws 2 0) (getD ws 3 0) }
+tupleOf ws = tuple (getD ws 0 0) (getD ws 1 0) (getD ws 2 0) (getD ws 3 0)
 
 -- "A row is five: label, drawing number, spot number, first, last."
 abbrev pub rowWidth : ℕ
 rowWidth = 5
 
+abbrev pub row : ℕ → ℕ → ℕ → ℕ → ℕ → Row
+row label outer inner first last = record { label = label; outer = outer; inner = inner; valid = span first last }
+
 abbrev pub rowWords : Row → List ℕ
 rowWords r = r .label ∷ (r .outer ∷ (r .inner ∷ (r .valid .first .0 ∷ (r .valid .last .0 ∷ []))))
 
 abbrev pub rowOf : List ℕ → Row
-rowOf ws = record {
-  label = getD ws 0 0;
-  outer = getD ws 1 0;
-  inner = getD ws 2 0;
-  valid = span (getD ws 3 0) (getD ws 4 0);
-}
+rowOf ws = row (getD ws 0 0) (getD ws 1 0) (getD ws 2 0) (getD ws 3 0) (getD ws 4 0)
 
 -- check 7: item number above 999,999
 unfoldable pub itemCheck : ℕ → ℕ
@@ -74,6 +75,10 @@ rowNumber r =
 
 unfoldable pub legalRow : Row → Bool
 legalRow r = eqb (rowNumber r) 0
+
+-- "equal labels", of an outer and an inner tuple
+unfoldable pub sameLabel : Tuple → Tuple → Bool
+sameLabel d s = eqb (d .label) (s .label)
 
 -- equal in all words
 unfoldable pub sameInterval : Interval → Interval → Bool

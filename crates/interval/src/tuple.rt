@@ -1,7 +1,7 @@
 // Tuples and rows: their checks 6 to 8 and their equality. No order of calls, no cost beyond a few comparisons.
 ghost use mathlib.Core.Path.{_≡_};
 ghost use Rattle.interval.specs.Label.{labelCheck};
-ghost use Rattle.interval.specs.Tuple.{itemCheck, validCheck, tupleNumber, rowNumber, sameInterval, sameTuple, sameRow};
+ghost use Rattle.interval.specs.Tuple.{itemCheck, validCheck, tupleNumber, rowNumber, sameLabel, sameInterval, sameTuple, sameRow};
 use crate::label::LABEL_END;
 use crate::time::CALENDAR_END;
 use crate::time::Interval;
@@ -86,6 +86,13 @@ pub fn row_number(row: Row) -> u64
         return inner;
     }
     valid_check(row.valid)
+}
+
+// Two tuples, an outer and an inner one, whose labels are equal.
+pub fn same_label(d: Tuple, s: Tuple) -> bool
+    ensures { λ r. ⌜ r ≡ sameLabel d s ⌝ }
+{
+    d.label == s.label
 }
 
 fn same_interval(a: Interval, b: Interval) -> bool

@@ -6,8 +6,8 @@ use Prim.Native.Nat.{ℕ}
 use Prim.Native.Char.{code}
 use Prim.Native.String.{String, [] as []ₛ, _∷_ as _∷ₛ_}
 use lib.ListN.{length, replicate}
-use Rattle.interval.specs.Time.{span}
 use Rattle.interval.specs.Label.{rank, isLetter, isLabel, labelNumber, lettersOf}
+use Rattle.interval.specs.Tuple.{tuple}
 use Rattle.lines.specs.Fields.{isNumber, valueOf, digitsOf}
 use Rattle.lines.specs.Line.{laneOf, changeOf, worded, formOf, lineOf, printed}
 use Rattle.lines.specs.declared.Word.{Word}
@@ -31,7 +31,7 @@ lane s n = record { line = bytes s; says = Lane (record { 0 = n }) }
 
 abbrev change : String → Word → ℕ → ℕ → ℕ → ℕ → Case
 change s w l n a b =
-    record { line = bytes s; says = Change w (record { label = l; item = n; valid = span a b }) }
+    record { line = bytes s; says = Change w (tuple l n a b) }
 
 -- 15, "not of the form below"
 abbrev refused : List ℕ → Case

@@ -9,8 +9,7 @@ use mathlib.Core.Path.{_≡_, refl}
 use Prim.Native.Nat.{ℕ, _-_}
 use lib.ListN.{getD, drop, replicate}
 use lib.Dec.{ltb}
-use Rattle.interval.specs.Time.{span}
-use Rattle.interval.specs.Tuple.{tupleWidth, tupleWords, sameTuple, rowWidth, rowWords, sameRow, sameInterval}
+use Rattle.interval.specs.Tuple.{tuple, row, tupleWidth, tupleWords, sameTuple, rowWidth, rowWords, sameRow, sameInterval}
 use Rattle.interval.specs.declared.tuple.Tuple.{Tuple}
 use Rattle.interval.specs.declared.tuple.Row.{Row}
 use Rattle.part.specs.Part.{roomOf, counted, recordsIn, tuplesIn, rowsIn, tupleAt, rowAt, soundPart}
@@ -29,22 +28,22 @@ two r s = 2 ∷ (r ++ s)
 
 -- three tuples and three rows
 abbrev t₁ : Tuple
-t₁ = record { label = 1; item = 10; valid = span 5 9 }
+t₁ = tuple 1 10 5 9
 
 abbrev t₂ : Tuple
-t₂ = record { label = 2; item = 20; valid = span 1 3 }
+t₂ = tuple 2 20 1 3
 
 abbrev t₃ : Tuple
-t₃ = record { label = 1; item = 10; valid = span 5 8 }
+t₃ = tuple 1 10 5 8
 
 abbrev r₁ : Row
-r₁ = record { label = 1; outer = 10; inner = 11; valid = span 5 9 }
+r₁ = row 1 10 11 5 9
 
 abbrev r₂ : Row
-r₂ = record { label = 2; outer = 20; inner = 21; valid = span 1 3 }
+r₂ = row 2 20 21 1 3
 
 abbrev r₃ : Row
-r₃ = record { label = 1; outer = 10; inner = 12; valid = span 5 9 }
+r₃ = row 1 10 12 5 9
 
 -- their words, written out
 tuple-part : two (tupleWords t₁) (tupleWords t₂) ≡ 2 ∷ (1 ∷ (10 ∷ (5 ∷ (9 ∷ (2 ∷ (20 ∷ (1 ∷ (3 ∷ []))))))))

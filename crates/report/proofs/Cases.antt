@@ -8,9 +8,8 @@ use Prim.Native.Nat.{ℕ, _-_, _*_}
 use lib.ListN.{length, replicate}
 use Rattle.lists.specs.Choice.{firstOf}
 use Rattle.lists.specs.Members.{gather}
-use Rattle.interval.specs.Time.{span}
 use Rattle.interval.specs.Label.{labelCheck, lettersOf}
-use Rattle.interval.specs.Tuple.{rowWords, itemCheck, validCheck, rowNumber, legalRow}
+use Rattle.interval.specs.Tuple.{row, rowWords, itemCheck, validCheck, rowNumber, legalRow}
 use Rattle.interval.specs.declared.tuple.Row.{Row}
 use Rattle.plan.specs.Plan.{cutsOf, cover, planNumber, legalPlan, home, homeOf}
 use Rattle.plan.specs.declared.Partitioning.{Partitioning}
@@ -22,10 +21,6 @@ use Rattle.report.specs.Text.{rowLine, countLine, partitionText, partiti
 use Rattle.report.specs.Report.{reportNumber}
 
 -- ---- how a case is written
-
--- label, drawing, spot, first, last
-abbrev row : ℕ → ℕ → ℕ → ℕ → ℕ → Row
-row l d s a b = record { label = l; outer = d; inner = s; valid = span a b }
 
 -- a plan with these cuts, and two rows a lane
 abbrev plan : ℕ → List ℕ → Partitioning

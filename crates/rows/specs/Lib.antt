@@ -1,3 +1,4 @@
 -- The definitions of this crate, in a reader's order.
 pub mod Join
+pub mod Sites
 pub mod Partners

@@ -9,7 +9,7 @@ use lib.ListN.{replicate}
 use Rattle.lists.specs.Choice.{firstOf}
 use Rattle.interval.specs.Time.{span}
 use Rattle.interval.specs.Label.{labelCheck}
-use Rattle.interval.specs.Tuple.{tupleNumber, itemCheck, validCheck}
+use Rattle.interval.specs.Tuple.{tuple, tupleNumber, itemCheck, validCheck}
 use Rattle.plan.specs.Plan.{cutsOf, cover, planNumber, legalPlan, home, homeOf}
 use Rattle.part.specs.Part.{counted, soundPart, recordsIn, tuplesIn, rowsIn}
 use Rattle.store.specs.Store.{fitsTuples, fitsRows, soundTuples, soundRows, soundTuplePart, soundRowPart}
@@ -34,13 +34,13 @@ abbrev lane : ℕ → Line
 lane m = Lane (record { 0 = m })
 
 abbrev drawn : ℕ → ℕ → ℕ → Line
-drawn item a b = Change DrawIn (record { label = 38; item = item; valid = span a b })
+drawn item a b = Change DrawIn (tuple 38 item a b)
 
 abbrev draw : Line
 draw = drawn 10 30 31
 
 abbrev unspot : Line
-unspot = Change SpotOut (record { label = 38; item = 1; valid = span 30 35 })
+unspot = Change SpotOut (tuple 38 1 30 35)
 
 -- stores of n lanes
 abbrev blankOf : ℕ → Stores

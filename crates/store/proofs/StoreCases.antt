@@ -9,9 +9,8 @@ use mathlib.Core.Path.{_≡_, refl}
 use Prim.Native.Nat.{ℕ, _-_}
 use lib.ListN.{length, replicate}
 use Rattle.lists.specs.Choice.{firstOf}
-use Rattle.interval.specs.Time.{span}
 use Rattle.interval.specs.Label.{labelCheck}
-use Rattle.interval.specs.Tuple.{tupleWidth, tupleWords, rowWidth, rowWords, itemCheck, validCheck}
+use Rattle.interval.specs.Tuple.{tuple, row, tupleWidth, tupleWords, rowWidth, rowWords, itemCheck, validCheck}
 use Rattle.interval.specs.Tuple.{tupleNumber, legalTuple, rowNumber, legalRow}
 use Rattle.interval.specs.declared.tuple.Tuple.{Tuple}
 use Rattle.interval.specs.declared.tuple.Row.{Row}
@@ -262,19 +261,19 @@ rows-hold = (
 -- ---- all that a store holds, partition after partition: what is not counted is not held
 
 abbrev t₁ : Tuple
-t₁ = record { label = 38; item = 10; valid = span 30 31 }
+t₁ = tuple 38 10 30 31
 
 abbrev t₂ : Tuple
-t₂ = record { label = 38; item = 11; valid = span 32 32 }
+t₂ = tuple 38 11 32 32
 
 abbrev t₃ : Tuple
-t₃ = record { label = 38; item = 11; valid = span 41 48 }
+t₃ = tuple 38 11 41 48
 
 abbrev r₁ : Row
-r₁ = record { label = 38; outer = 10; inner = 1; valid = span 30 31 }
+r₁ = row 38 10 1 30 31
 
 abbrev r₃ : Row
-r₃ = record { label = 38; outer = 11; inner = 2; valid = span 41 48 }
+r₃ = row 38 11 2 41 48
 
 abbrev drawings : List ℕ
 drawings = store (nine 2 38 10 30 31 38 11 32 32) no9 (nine 1 38 11 41 48 0 0 0 0)

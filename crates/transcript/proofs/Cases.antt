@@ -8,9 +8,9 @@ use Prim.Native.Nat.{ℕ, _-_}
 use Prim.Native.Char.{code}
 use Prim.Native.String.{String, [] as []ₛ, _∷_ as _∷ₛ_}
 use lib.ListN.{length, replicate}
-use Rattle.interval.specs.Time.{span, overlap}
+use Rattle.interval.specs.Time.{overlap}
 use Rattle.interval.specs.Label.{rank, isLetter, isLabel, labelNumber, lettersOf}
-use Rattle.interval.specs.Tuple.{sameInterval, sameTuple}
+use Rattle.interval.specs.Tuple.{tuple, sameInterval, sameTuple}
 use Rattle.interval.specs.declared.tuple.Tuple.{Tuple}
 use Rattle.plan.specs.Plan.{cutsOf, homeOf, home}
 use Rattle.plan.specs.declared.Partitioning.{Partitioning}
@@ -53,9 +53,6 @@ plan n cuts = record {
 
 abbrev three : Partitioning
 three = plan 3 (34 ∷ 40 ∷ 99999999 ∷ [])
-
-abbrev tuple : ℕ → ℕ → ℕ → ℕ → Tuple
-tuple l n a b = record { label = l; item = n; valid = span a b }
 
 abbrev holds : List Tuple → List Tuple → Option Machine
 holds ds ss = some (record { plan = three; outer = ds; inner = ss })
