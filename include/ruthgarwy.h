@@ -128,8 +128,8 @@ uint64_t ruthgarwy_delete(const uint64_t *plan, size_t plan_words,
                           uint64_t *answer, size_t answer_words);
 
 /*
- * Sweep: writes store 3 afresh from stores 1 and 2, which it only reads, with two lent caches: rcache for drawings,
- * scache for spots. A side's need is the largest number, over lanes i, of that side's tuples stored above lane i
+ * Sweep: writes store 3 afresh from stores 1 and 2, which it only reads, with two lent caches: outer_cache for drawings,
+ * inner_cache for spots. A side's need is the largest number, over lanes i, of that side's tuples stored above lane i
  * whose first minute is at or before lane i's last; its cache has at least 4 words for each. After an accepted
  * sweep the caches' contents are free. Can be refused with 1 to 5, 10 and 14. Counts: rows written; pairs compared.
  */
@@ -137,8 +137,8 @@ uint64_t ruthgarwy_sweep(const uint64_t *plan, size_t plan_words,
                          const uint64_t *outer, size_t outer_words,
                          const uint64_t *inner, size_t inner_words,
                          uint64_t *rows, size_t rows_words,
-                         uint64_t *rcache, size_t rcache_words,
-                         uint64_t *scache, size_t scache_words,
+                         uint64_t *outer_cache, size_t outer_cache_words,
+                         uint64_t *inner_cache, size_t inner_cache_words,
                          uint64_t *answer, size_t answer_words);
 
 /*

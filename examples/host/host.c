@@ -12,8 +12,8 @@ static uint64_t plan[RUTHGARWY_PLAN_WORDS] = {LANES, TUPLES, ROWS, 34, 40, RUTHG
 static uint64_t outer[RUTHGARWY_TUPLE_STORE_WORDS(LANES, TUPLES)];
 static uint64_t inner[RUTHGARWY_TUPLE_STORE_WORDS(LANES, TUPLES)];
 static uint64_t rows[RUTHGARWY_ROW_STORE_WORDS(LANES, ROWS)];
-static uint64_t rcache[RUTHGARWY_CACHE_WORDS(LANES, TUPLES)];
-static uint64_t scache[RUTHGARWY_CACHE_WORDS(LANES, TUPLES)];
+static uint64_t outer_cache[RUTHGARWY_CACHE_WORDS(LANES, TUPLES)];
+static uint64_t inner_cache[RUTHGARWY_CACHE_WORDS(LANES, TUPLES)];
 static uint64_t answer[RUTHGARWY_ANSWER_WORDS];
 
 // an array as a slice: its address and its length in words
@@ -82,7 +82,7 @@ int main(void)
     withdraw(RUTHGARWY_OUTER, 11, 32, 32); // refused: it is gone
     print_rows();
 
-    told("sweep", ruthgarwy_sweep(SLICE(plan), SLICE(outer), SLICE(inner), SLICE(rows), SLICE(rcache), SLICE(scache),
+    told("sweep", ruthgarwy_sweep(SLICE(plan), SLICE(outer), SLICE(inner), SLICE(rows), SLICE(outer_cache), SLICE(inner_cache),
                                   SLICE(answer)));
     print_rows();
 
