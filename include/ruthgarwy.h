@@ -30,7 +30,6 @@ extern "C" {
  * 4096), then 64 places for last minutes, one for each lane; those beyond the lane count are ignored. Last minutes
  * rise strictly, and the last one is RUTHGARWY_LAST_MINUTE.
  */
-#define RUTHGARWY_PLAN_WORDS 67
 #define RUTHGARWY_PLAN_LANES 0
 #define RUTHGARWY_PLAN_TUPLES 1
 #define RUTHGARWY_PLAN_ROWS 2
@@ -38,6 +37,9 @@ extern "C" {
 
 /* The places for last minutes: in a plan, and the words of the new ones that a recut is handed. */
 #define RUTHGARWY_CUT_WORDS 64
+
+/* The words of a plan: 67. */
+#define RUTHGARWY_PLAN_WORDS (RUTHGARWY_PLAN_LASTS + RUTHGARWY_CUT_WORDS)
 
 /* The last minute of all; the first is 0. */
 #define RUTHGARWY_LAST_MINUTE 99999999
@@ -58,11 +60,11 @@ extern "C" {
  */
 #define RUTHGARWY_TUPLE_WORDS 4
 #define RUTHGARWY_ROW_WORDS 5
-#define RUTHGARWY_TUPLE_STORE_WORDS(lanes, tuples) ((size_t)(lanes) * (1 + 4 * (size_t)(tuples)))
-#define RUTHGARWY_ROW_STORE_WORDS(lanes, rows) ((size_t)(lanes) * (1 + 5 * (size_t)(rows)))
+#define RUTHGARWY_TUPLE_STORE_WORDS(lanes, tuples) ((size_t)(lanes) * (1 + RUTHGARWY_TUPLE_WORDS * (size_t)(tuples)))
+#define RUTHGARWY_ROW_STORE_WORDS(lanes, rows) ((size_t)(lanes) * (1 + RUTHGARWY_ROW_WORDS * (size_t)(rows)))
 
 /* The words of a cache that is large enough for every sweep under such a plan. */
-#define RUTHGARWY_CACHE_WORDS(lanes, tuples) (4 * (size_t)(lanes) * (size_t)(tuples))
+#define RUTHGARWY_CACHE_WORDS(lanes, tuples) (RUTHGARWY_TUPLE_WORDS * (size_t)(lanes) * (size_t)(tuples))
 
 /* The sides: drawings, and spots. Every word but 1 stands for spots. */
 #define RUTHGARWY_OUTER 1
@@ -128,8 +130,8 @@ uint64_t ruthgarwy_delete(const uint64_t *plan, size_t plan_words,
                           uint64_t *answer, size_t answer_words);
 
 /*
- * Sweep: writes store 3 afresh from stores 1 and 2, which it only reads, with two lent caches: outer_cache for drawings,
- * inner_cache for spots. A side's need is the largest number, over lanes i, of that side's tuples stored above lane i
+ * Sweep: writes store 3 afresh from stores 1 and 2, which it only reads, with two lent caches: outer_cache for
+ * drawings, inner_cache for spots. A side's need is the largest number, over lanes i, of that side's tuples stored above lane i
  * whose first minute is at or before lane i's last; its cache has at least 4 words for each. After an accepted
  * sweep the caches' contents are free. Can be refused with 1 to 5, 10 and 14. Counts: rows written; pairs compared.
  */

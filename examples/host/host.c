@@ -82,7 +82,8 @@ int main(void)
     withdraw(RUTHGARWY_OUTER, 11, 32, 32); // refused: it is gone
     print_rows();
 
-    told("sweep", ruthgarwy_sweep(SLICE(plan), SLICE(outer), SLICE(inner), SLICE(rows), SLICE(outer_cache), SLICE(inner_cache),
+    told("sweep", ruthgarwy_sweep(SLICE(plan), SLICE(outer), SLICE(inner), SLICE(rows),
+                                  SLICE(outer_cache), SLICE(inner_cache),
                                   SLICE(answer)));
     print_rows();
 
