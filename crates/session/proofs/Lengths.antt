@@ -29,7 +29,7 @@ use Rattle.insertion.specs.Inserts.{inserted}
 use Rattle.insertion.proofs.Sites.{at-within}
 use Rattle.deletion.specs.Deletes.{deleted}
 use Rattle.join.specs.Changes.{insertNumber, Inserted, deleteNumber, Deleted}
-use Rattle.join.proofs.ChangeCalls.{checked-outer, checked-inner}
+use Rattle.join.proofs.ChangeCalls.{checked}
 use Rattle.lines.specs.declared.Word.{Word}
 use Rattle.lines.specs.declared.Word.the-variants.{DrawIn, DrawOut, SpotIn, SpotOut}
 use Rattle.lines.specs.declared.Line.{Line}
@@ -65,14 +65,14 @@ whole-long n ws ws′ e d =
 module _ (p : Partitioning) (t : Tuple) (own other rows : List ℕ) (c : Checked p t own other rows)
     (places : length (p .lasts) ≡ 64) where
   home-in : home p (to t) < p .count
-  home-in = at-within p t own other rows c places
+  home-in = at-within p t (c .legal) (c .tuple-legal) places
 
   on-home : (f : List ℕ → List ℕ) → ((part : List ℕ) → length (f part) ≡ length part)
       → length (onPartition (tupleRoom p) (home p (to t)) f own) ≡ length own
   on-home f same =
-      on-length (tupleRoom p) (p .count) (home p (to t)) f own (c .own-long) home-in
+      on-length (tupleRoom p) (p .count) (home p (to t)) f own (c .own-checked .long) home-in
       (same (tuplePart p own (home p (to t)))
-      ∙ partition-length (tupleRoom p) (p .count) (home p (to t)) own (c .own-long) home-in)
+      ∙ partition-length (tupleRoom p) (p .count) (home p (to t)) own (c .own-checked .long) home-in)
 
   inserted-long : length (inserted p t own) ≡ length own
   inserted-long = on-home (appended tupleWidth (tupleWords t)) (length-appended tupleWidth (tupleWords t))
@@ -91,7 +91,7 @@ module _ (p : Partitioning) (t : Tuple) (S S′ : Stores) (a : Answer) (places :
   unfolding insertNumber
   insert-long Outer h z =
       let k = checks _ (sym (h .number) ∙ z) in
-      let c = checked-outer p t (S .outer) (S .inner) (S .rows) 0 0 (sym (k .0)) refl (sym (k .1)) refl in
+      let c = checked p Outer t S (k .0) (k .1) in
       let r = h .accepted z in
       record {
         outer = ap length (r .own) ∙ inserted-long p t _ _ _ c places;
@@ -100,7 +100,7 @@ module _ (p : Partitioning) (t : Tuple) (S S′ : Stores) (a : Answer) (places :
       }
   insert-long Inner h z =
       let k = checks _ (sym (h .number) ∙ z) in
-      let c = checked-inner p t (S .outer) (S .inner) (S .rows) 0 0 (sym (k .0)) refl (sym (k .1)) refl in
+      let c = checked p Inner t S (k .0) (k .1) in
       let r = h .accepted z in
       record {
         outer = ap length (r .other);
@@ -112,7 +112,7 @@ module _ (p : Partitioning) (t : Tuple) (S S′ : Stores) (a : Answer) (places :
   unfolding deleteNumber
   delete-long Outer h z =
       let k = checks _ (sym (h .number) ∙ z) in
-      let c = checked-outer p t (S .outer) (S .inner) (S .rows) 0 0 (sym (k .0)) refl (sym (k .1)) refl in
+      let c = checked p Outer t S (k .0) (k .1) in
       let r = h .accepted z in
       record {
         outer = ap length (r .own) ∙ deleted-long p t _ _ _ c places;
@@ -121,7 +121,7 @@ module _ (p : Partitioning) (t : Tuple) (S S′ : Stores) (a : Answer) (places :
       }
   delete-long Inner h z =
       let k = checks _ (sym (h .number) ∙ z) in
-      let c = checked-inner p t (S .outer) (S .inner) (S .rows) 0 0 (sym (k .0)) refl (sym (k .1)) refl in
+      let c = checked p Inner t S (k .0) (k .1) in
       let r = h .accepted z in
       record {
         outer = ap length (r .other);
