@@ -60,7 +60,11 @@ pub fn tuples_unsound(p: Partitioning, store: &[u64]) -> u64
     requires { ⌜ fitsTuples p (length (now store)) ≡ true ⌝ }
     ensures { λ r. ⌜ r ≡ tuplesUnsound p (now (store .entry)) ⌝ }
 {
-    if soundness::sound_tuples(p, store) { 0 } else { 5 }
+    if soundness::sound_tuples(p, store) {
+        0
+    } else {
+        5
+    }
 }
 
 // Check 5 of the rows store.
@@ -68,7 +72,11 @@ pub fn rows_unsound(p: Partitioning, store: &[u64]) -> u64
     requires { ⌜ fitsRows p (length (now store)) ≡ true ⌝ }
     ensures { λ r. ⌜ r ≡ rowsUnsound p (now (store .entry)) ⌝ }
 {
-    if soundness::sound_rows(p, store) { 0 } else { 5 }
+    if soundness::sound_rows(p, store) {
+        0
+    } else {
+        5
+    }
 }
 
 // Checks 1 to 4, for stores of these lengths.

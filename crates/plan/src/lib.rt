@@ -8,7 +8,9 @@ use interval::time::Chronon;
 
 // The most lanes, tuples in a lane and rows in a lane that a legal plan has.
 pub const MOST_PARTITIONS: u64 = 64;
+
 pub const MOST_TUPLES: u64 = 512;
+
 pub const MOST_ROWS: u64 = 4_096;
 
 // The places that a plan has for last minutes.

@@ -100,7 +100,12 @@ fn record_between(kind: Records, part: &[u64], k: usize, first: Chronon, last: C
         }
         Records::Rows => {
             let row = part::row_at(part, k);
-            legal_between(interval::tuple::row_number(row), row.valid.last, first, last)
+            legal_between(
+                interval::tuple::row_number(row),
+                row.valid.last,
+                first,
+                last,
+            )
         }
     }
 }
@@ -163,7 +168,13 @@ pub fn sound_tuples(p: Partitioning, store: &[u64]) -> bool
     requires { ⌜ fitsTuples p (length (now store)) ≡ true ⌝ }
     ensures { λ r. ⌜ r ≡ soundTuples p (now (store .entry)) ⌝ }
 {
-    sound_parts(Records::Tuples, p, p.tuples as usize, store::tuple_room(p), store)
+    sound_parts(
+        Records::Tuples,
+        p,
+        p.tuples as usize,
+        store::tuple_room(p),
+        store,
+    )
 }
 
 // Check 5 of the rows store.

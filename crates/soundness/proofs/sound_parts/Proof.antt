@@ -72,8 +72,8 @@ turn : (c : tie.After-sound-part Inv-loop μ-loop)
     → (let t = c .before .before .before in
     let a = t .before .before .before .before .before .args in
     let f : ℕ → Bool =
-      (λ i. soundPart (widthOf (a .kind)) (a .capacity) (recordAtHome (a .kind) (a .p) i)
-      (partitionAt (a .room) (a .store .now) i)) in
+    (λ i. soundPart (widthOf (a .kind)) (a .capacity) (recordAtHome (a .kind) (a .p) i)
+    (partitionAt (a .room) (a .store .now) i)) in
     let i = t .before .before .loop .i in
     Turn (c .sound-part .result) (all f (below (a .p .count))) (all f (upFrom (i + 1) (a .p .count - (i + 1)))))
 turn c =
