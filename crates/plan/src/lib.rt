@@ -6,11 +6,13 @@ ghost use Rattle.plan.specs.Plan.{numbers, cover, planNumber, home, with
 use interval::time::CALENDAR_END;
 use interval::time::Chronon;
 
-// The most lanes, tuples in a lane and rows in a lane that a legal plan has.
+// The most lanes of a legal plan.
 pub const MOST_PARTITIONS: u64 = 64;
 
+// The most tuples of one of its lanes.
 pub const MOST_TUPLES: u64 = 512;
 
+// The most rows of one of its lanes.
 pub const MOST_ROWS: u64 = 4_096;
 
 // The places that a plan has for last minutes.
