@@ -77,11 +77,11 @@ EDITS = [
     ('part/lib.rt', 'words[i] = 0;', 'words[i] = words[i] / 2;'),
     ('part/lib.rt', 'equal_rows += 1;', 'equal_rows = 1;'),
     # the checks
-    ('plan/lib.rt', 'if 64 < p.count {', 'if 65 < p.count {'),
+    ('plan/lib.rt', 'if MOST_PARTITIONS < p.count {', 'if MOST_PARTITIONS + 1 < p.count {'),
     ('plan/lib.rt', 'if next.0 <= last.0 {', 'if next.0 < last.0 {'),
     ('plan/lib.rt', 'end.0 == CALENDAR_END', 'end.0 <= CALENDAR_END'),
-    ('plan/lib.rt', 'if 512 < p.tuples {', 'if 513 < p.tuples {'),
-    ('plan/lib.rt', 'if 4096 < p.rows {', 'if 4095 < p.rows {'),
+    ('plan/lib.rt', 'if MOST_TUPLES < p.tuples {', 'if MOST_TUPLES + 1 < p.tuples {'),
+    ('plan/lib.rt', 'if MOST_ROWS < p.rows {', 'if MOST_ROWS - 1 < p.rows {'),
     ('plan/lib.rt', 'if m.0 <= last.0 {', 'if m.0 < last.0 {'),
     ('soundness/lib.rt', 'zeros_from(part, 1 + 4 * n)', 'true'),
     ('soundness/lib.rt', 'zeros_from(part, 1 + 5 * n)', 'true'),
@@ -186,7 +186,7 @@ EDITS = [
     ),
     # the repartition
     ('join/lib.rt', 'plan: plan::with_cuts(p, new),', 'plan: p,'),
-    ('plan/lib.rt', 'let mut places = p.count;', 'let mut places: u64 = 64;'),
+    ('plan/lib.rt', 'let mut places = p.count;', 'let mut places = MOST_PARTITIONS;'),
     ('plan/lib.rt', 'let mut i: u64 = 0;\n    while i < places {', 'let mut i: u64 = 1;\n    while i < places {'),
     ('join/lib.rt', 'if !plan::covers(p.count, new) {', 'if false {'),
     ('join/lib.rt', '        return 2;', '        return 13;'),
