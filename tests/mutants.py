@@ -49,30 +49,30 @@ EDITS = [
     ('removal/lib.rt', 'if stands < goes {', 'if stands < 1 {'),
     ('removal/lib.rt', 'if stands < goes {', 'if stands <= goes {'),
     ('removal/lib.rt', 'if stands < goes {', 'if false {'),
-    ('removal/lib.rt', 'store::remove_row(rows, size, PartitionIndex(i), place);', ''),
+    ('removal/lib.rt', 'store::remove(rows, ROW_WIDTH, size, PartitionIndex(i), place);', ''),
     (
         'removal/lib.rt',
-        'store::remove_row(rows, size, PartitionIndex(i), place);',
+        'store::remove(rows, ROW_WIDTH, size, PartitionIndex(i), place);',
         'let mut place = place;\n'
         'while (place as u64) < part::count(store::partition(rows, size, PartitionIndex(i))) {\n'
-        'store::remove_row(rows, size, PartitionIndex(i), place);\n'
+        'store::remove(rows, ROW_WIDTH, size, PartitionIndex(i), place);\n'
         'place = part::place_of_row(store::partition(rows, size, PartitionIndex(i)), row);\n'
         '}',
     ),
     (
         'removal/lib.rt',
-        'store::remove_row(rows, size, PartitionIndex(i), place);',
-        'store::remove_row(rows, size, PartitionIndex(i), 0);',
+        'store::remove(rows, ROW_WIDTH, size, PartitionIndex(i), place);',
+        'store::remove(rows, ROW_WIDTH, size, PartitionIndex(i), 0);',
     ),
     # one lane
-    ('part/lib.rt', 'write_tuple(part, 1 + 4 * k, moved);', 'write_tuple(part, 1, moved);'),
-    ('part/lib.rt', 'write_tuple(part, 1 + 4 * last, none);', ''),
-    ('part/lib.rt', 'part[0] = tuples - 1;', ''),
-    ('part/lib.rt', 'write_row(part, 1 + 5 * last, none);', ''),
-    ('part/lib.rt', 'write_row(part, 1 + 5 * k, moved);', ''),
+    ('part/lib.rt', 'copy(part, width, last, k);', 'copy(part, width, last, 0);'),
+    ('part/lib.rt', 'clear(&mut part[at..end]);', ''),
+    ('part/lib.rt', 'part[0] = held - 1;', ''),
+    ('part/lib.rt', 'copy(part, width, last, k);', ''),
+    ('part/lib.rt', 'let source = 1 + width * from;', 'let source = 1 + width * to;'),
     ('part/lib.rt', 'part[0] = tuples + 1;', 'part[0] = tuples + 2;'),
-    ('part/lib.rt', 'write_tuple(part, 1 + 4 * (tuples as usize), t);', 'write_tuple(part, 1, t);'),
-    ('part/lib.rt', 'part[at + 4] = row.valid.last.0;', 'part[at + 4] = row.valid.first.0;'),
+    ('part/lib.rt', 'write_tuple(part, 1 + TUPLE_WIDTH * (tuples as usize), t);', 'write_tuple(part, 1, t);'),
+    ('interval/tuple.rt', 'words[at + 4] = row.valid.last.0;', 'words[at + 4] = row.valid.first.0;'),
     ('part/lib.rt', 'let mut tuple_place: usize = 0;', 'let mut tuple_place: usize = 1;'),
     ('part/lib.rt', 'words[i] = 0;', 'words[i] = words[i] / 2;'),
     ('part/lib.rt', 'equal_rows += 1;', 'equal_rows = 1;'),
@@ -114,7 +114,11 @@ EDITS = [
         'rows::add::add_rows(side, t, other, room, p.count, low.0, at.0, rows, size);',
         'rows::add::add_rows(side, t, other, room, p.count, at.0, at.0, rows, size);',
     ),
-    ('deletion/lib.rt', 'store::remove_tuple(own, room, at, place);', 'store::remove_tuple(own, room, at, 0);'),
+    (
+        'deletion/lib.rt',
+        'store::remove(own, TUPLE_WIDTH, room, at, place);',
+        'store::remove(own, TUPLE_WIDTH, room, at, 0);',
+    ),
     ('deletion/lib.rt', 'removal::take_rows(side, t, other, room, p.count, low.0, at.0, rows, size);', ''),
     (
         'deletion/lib.rt',

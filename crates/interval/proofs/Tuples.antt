@@ -1,10 +1,11 @@
--- Laws of tuples and rows: their words there and back; equality in all words is equality; what a legal tuple, a legal row
+-- Laws of tuples and rows: their words there and back, and read from a list; equality in all words is equality; what a legal tuple, a legal row
 -- is, and that such a one passes each check.
 -- Assumes nothing.
 use mathlib.Core.Bool.{Bool, true, false, _&&_, _||_}
 use mathlib.Core.List.{List, [], _∷_}
 use mathlib.Core.Path.{_≡_, refl, sym}
-use Prim.Native.Nat.{ℕ, zero, suc, _≤_, _<_}
+use Prim.Native.Nat.{ℕ, zero, suc, _+_, _≤_, _<_}
+use native.Mathlib.Nat.{add-zero}
 use native.Mathlib.Omega.{arith}
 use lib.ListN.{length, getD}
 use lib.Seq.{ext-getD}
@@ -12,11 +13,13 @@ use lib.Dec.{ltb, eqb}
 use borrow.Author.Tests.{eqb-true, eq-eqb, le-ltb, ltb-false}
 use Rattle.lists.specs.Choice.{firstOf}
 use Rattle.lists.specs.Same.{IsEquality}
+use Rattle.lists.specs.Words.{partAt}
 use Rattle.lists.proofs.Choice.{and-left, and-right, and-both, or-none, or-neither-left, or-neither-right}
 use Rattle.lists.proofs.Choice.{refuse-none, refuse-passed, first-none}
+use Rattle.lists.proofs.Parts.{reads-part}
 use Rattle.interval.specs.Time.{calendarEnd}
 use Rattle.interval.specs.Label.{labelCheck}
-use Rattle.interval.specs.Tuple.{tupleOf, tupleWords, rowOf, rowWords, itemCheck, validCheck}
+use Rattle.interval.specs.Tuple.{tupleWidth, tupleOf, tupleWords, rowWidth, rowOf, rowWords, itemCheck, validCheck}
 use Rattle.interval.specs.Tuple.{tupleNumber, legalTuple, rowNumber, legalRow, sameInterval, sameTuple, sameRow}
 use Rattle.interval.specs.declared.time.Interval.{Interval}
 use Rattle.interval.specs.declared.tuple.Tuple.{Tuple}
@@ -30,26 +33,38 @@ tuple-of-words t = refl
 pub row-of-words : (r : Row) → rowOf (rowWords r) ≡ r
 row-of-words r = refl
 
-pub words-of-tuple : (ws : List ℕ) → length ws ≡ 4 → tupleWords (tupleOf ws) ≡ ws
+pub words-of-tuple : (ws : List ℕ) → length ws ≡ tupleWidth → tupleWords (tupleOf ws) ≡ ws
 words-of-tuple ws e = ext-getD 0 (tupleWords (tupleOf ws)) ws (sym e) at
   where
-    at : (i : ℕ) → i < 4 → getD (tupleWords (tupleOf ws)) i 0 ≡ getD ws i 0
+    at : (i : ℕ) → i < tupleWidth → getD (tupleWords (tupleOf ws)) i 0 ≡ getD ws i 0
     at zero h = refl
     at (suc zero) h = refl
     at (suc (suc zero)) h = refl
     at (suc (suc (suc zero))) h = refl
     at (suc (suc (suc (suc i)))) h = absurd (omega arith)
 
-pub words-of-row : (ws : List ℕ) → length ws ≡ 5 → rowWords (rowOf ws) ≡ ws
+pub words-of-row : (ws : List ℕ) → length ws ≡ rowWidth → rowWords (rowOf ws) ≡ ws
 words-of-row ws e = ext-getD 0 (rowWords (rowOf ws)) ws (sym e) at
   where
-    at : (i : ℕ) → i < 5 → getD (rowWords (rowOf ws)) i 0 ≡ getD ws i 0
+    at : (i : ℕ) → i < rowWidth → getD (rowWords (rowOf ws)) i 0 ≡ getD ws i 0
     at zero h = refl
     at (suc zero) h = refl
     at (suc (suc zero)) h = refl
     at (suc (suc (suc zero))) h = refl
     at (suc (suc (suc (suc zero)))) h = refl
     at (suc (suc (suc (suc (suc i))))) h = absurd (omega arith)
+
+-- a tuple, a row whose words are read one by one from place `at` on
+pub tuple-read : (at : ℕ) (ws : List ℕ) → at + tupleWidth ≤ length ws
+    → tupleOf (partAt at tupleWidth ws)
+    ≡ tupleOf (getD ws at 0 ∷ (getD ws (at + 1) 0 ∷ (getD ws (at + 2) 0 ∷ (getD ws (at + 3) 0 ∷ []))))
+tuple-read at ws h = rw (← reads-part tupleWidth at 0 ws h) (simp add-zero)
+
+pub row-read : (at : ℕ) (ws : List ℕ) → at + rowWidth ≤ length ws
+    → rowOf (partAt at rowWidth ws)
+    ≡ rowOf (getD ws at 0
+    ∷ (getD ws (at + 1) 0 ∷ (getD ws (at + 2) 0 ∷ (getD ws (at + 3) 0 ∷ (getD ws (at + 4) 0 ∷ [])))))
+row-read at ws h = rw (← reads-part rowWidth at 0 ws h) (simp add-zero)
 
 -- ---- equality
 

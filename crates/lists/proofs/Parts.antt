@@ -1,7 +1,8 @@
 -- A part of a list, and the whole with a part put back.
 -- In order: where parts of one size start; a part's length and members; parts of what is taken, of what is left and of
 -- a part; a part for a loop, and of one value; a part put back, read again, and the parts beside it; one put back
--- inside another; stores as a part put back, and inside one; members after a part is put back; lists equal by parts.
+-- inside another; stores as a part put back, and inside one; what a run of stores leaves as it was, and one store more;
+-- members after a part is put back; lists equal by parts.
 use mathlib.Core.Path.{_≡_, refl, sym, ap, ap₂, _∙_}
 use mathlib.Core.Bool.{Bool, true, false}
 use mathlib.Core.List.{List, [], _∷_, _++_, append-assoc}
@@ -12,7 +13,7 @@ use native.Mathlib.Omega.{arith}
 use lib.Dec.{ltb}
 use lib.ListN.{length, take, drop, getD, set, replicate, length-append, length-take, length-drop, take-append-drop}
 use lib.Seq.{sets, sets-eq, length-take-le, take-all, take-length, drop-cons, take-at, drop-at, getD-take, getD-drop}
-use lib.Seq.{take-take, drop-drop, take-add, set-split}
+use lib.Seq.{take-take, take-suc, drop-drop, drop-set-lt, take-add, set-split, set-comm, getD-set-other}
 use borrow.Author.Tests.{ltb-true, ltb-false}
 use borrow.Rule.Slice.PartMut.{putMid, put-same, set-mid-at, take-put}
 use Rattle.lists.specs.Words.{partAt}
@@ -30,6 +31,10 @@ start-mono i j size h = omega (arith, start-next i size, start-le (i + 1) j size
 -- part i of n ends within the n
 pub start-within : (i n size : ℕ) → i < n → i * size + size ≤ n * size
 start-within = start-mono
+
+-- place j is none of the n places from i on
+abbrev pub Apart : ℕ → ℕ → ℕ → Type 0
+Apart j i n = (m : ℕ) → i ≤ m → m < i + n → (j ≡ m → ⊥)
 
 module _ {A : Type 0} where
   -- a part's length, where it lies within the list
@@ -165,6 +170,45 @@ module _ {A : Type 0} where
       ap (putMid a k xs) (sets-put i (partAt a k xs) vs (omega (arith, length-part a k xs h)))
       ∙ put-inside a k i (length vs) xs vs h g refl
       ∙ sym (sets-put (a + i) xs vs (omega arith))
+
+  -- what lies after a run of stores is as it was
+  pub drop-sets : (n : ℕ) (xs : List A) (i : ℕ) (vs : List A) → i + length vs ≤ n → drop n (sets xs i vs) ≡ drop n xs
+  drop-sets n xs i [] h = refl
+  drop-sets n xs i (v ∷ vs) h =
+      drop-sets n (set xs i v) (suc i) vs (omega arith) ∙ drop-set-lt n xs i v (omega arith)
+
+  -- a member that is not one of those stored is as it was, and a store there may come first
+  pub getD-sets-apart : (xs : List A) (i j : ℕ) (vs : List A) (d : A) → Apart j i (length vs)
+      → getD (sets xs i vs) j d ≡ getD xs j d
+  getD-sets-apart xs i j [] d apart = refl
+  getD-sets-apart xs i j (v ∷ vs) d apart =
+      getD-sets-apart (set xs i v) (suc i) j vs d (λ m l h. apart m (omega arith) (omega arith))
+      ∙ getD-set-other xs i j v d (apart i (omega arith) (omega arith))
+
+  pub set-sets-apart : (xs : List A) (i j : ℕ) (vs : List A) (x : A) → Apart j i (length vs)
+      → set (sets xs i vs) j x ≡ sets (set xs j x) i vs
+  set-sets-apart xs i j [] x apart = refl
+  set-sets-apart xs i j (v ∷ vs) x apart =
+      set-sets-apart (set xs i v) (suc i) j vs x (λ m l h. apart m (omega arith) (omega arith))
+      ∙ ap (λ (ys : List A). sets ys (suc i) vs)
+      (set-comm xs i j v x (λ e. apart i (omega arith) (omega arith) (sym e)))
+
+  -- one store more behind a run of stores, where the run is a part of a list and the store its next member
+  sets-snoc : (xs : List A) (i : ℕ) (vs : List A) (v : A)
+      → sets xs i (vs ++ (v ∷ [])) ≡ set (sets xs i vs) (i + length vs) v
+  sets-snoc xs i [] v = rw add-zero
+  sets-snoc xs i (x ∷ vs) v =
+      let e : suc i + length vs ≡ i + suc (length vs) = omega arith in
+      sets-snoc (set xs i x) (suc i) vs v ∙ ap (λ (n : ℕ). set (sets (set xs i x) (suc i) vs) n v) e
+
+  pub sets-part-more : (xs : List A) (i : ℕ) (ys : List A) (a k : ℕ) (d : A) → a + k < length ys
+      → set (sets xs i (partAt a k ys)) (i + k) (getD ys (a + k) d) ≡ sets xs i (partAt a (k + 1) ys)
+  sets-part-more xs i ys a k d h =
+      let long : length (partAt a k ys) ≡ k = length-part a k ys (omega arith) in
+      let next : partAt a (k + 1) ys ≡ partAt a k ys ++ (getD ys (a + k) d ∷ []) =
+      rw (add-one, ← getD-drop) (take-suc (drop a ys) k d (omega (arith, length-drop a ys))) in
+      sym (ap (sets xs i) next ∙ sets-snoc xs i (partAt a k ys) (getD ys (a + k) d)
+      ∙ ap (λ (n : ℕ). set (sets xs i (partAt a k ys)) (i + n) (getD ys (a + k) d)) long)
 
   -- the members after a part is put back: in it, before it, after it
   pub getD-put-in : (a k i : ℕ) (xs ys : List A) (d : A) → a + k ≤ length xs → length ys ≡ k → i < k

@@ -9,11 +9,12 @@ use mathlib.Core.Path.{_≡_, refl}
 use Prim.Native.Nat.{ℕ, _-_}
 use lib.ListN.{getD, drop, replicate}
 use lib.Dec.{ltb}
+use Rattle.lists.specs.Same.{times}
 use Rattle.interval.specs.Tuple.{tuple, row, tupleWidth, tupleWords, sameTuple, rowWidth, rowWords, sameRow, sameInterval}
 use Rattle.interval.specs.declared.tuple.Tuple.{Tuple}
 use Rattle.interval.specs.declared.tuple.Row.{Row}
 use Rattle.part.specs.Part.{roomOf, counted, recordsIn, tuplesIn, rowsIn, tupleAt, rowAt, soundPart}
-use Rattle.part.specs.Part.{appended, removed, timesOfTuple, timesOfRow, placeOfTuple, placeOfRow}
+use Rattle.part.specs.Part.{appended, copied, swapped, removed, timesOfRow, placeOfTuple, placeOfRow}
 
 -- ---- parts of capacity 2: with no record, with one, with two
 
@@ -54,7 +55,8 @@ row-part : two (rowWords r₁) (rowWords r₂)
 row-part = refl
 
 -- ---- what the writers leave: one append and another; the first of two taken out, so that the last moves over it and
--- its words become 0; the last of two taken out; the only one; the freed place used again
+-- its words become 0; the last of two taken out; the only one; the freed place used again; a record over another, and
+-- over itself; two records swapped, from either side, and one with itself
 
 record Writes (w : ℕ) (a b c : List ℕ) : Type 0 where
   first : appended w a (none w) ≡ one w a
@@ -64,9 +66,15 @@ record Writes (w : ℕ) (a b c : List ℕ) : Type 0 where
   only : removed w 0 (one w a) ≡ none w
   reused : appended w c (removed w 0 (two a b)) ≡ two b c
   reused-last : appended w c (removed w 1 (two a b)) ≡ two a c
+  copied-down : copied w 1 0 (two a b) ≡ two b b
+  copied-up : copied w 0 1 (two a b) ≡ two a a
+  copied-itself : copied w 1 1 (two a b) ≡ two a b
+  swapped-both : swapped w 0 1 (two a b) ≡ two b a
+  swapped-back : swapped w 1 0 (two a b) ≡ two b a
+  swapped-itself : swapped w 0 0 (two a b) ≡ two a b
 
 tuples-written : Writes tupleWidth (tupleWords t₁) (tupleWords t₂) (tupleWords t₃)
-unfolding counted appended removed
+unfolding counted appended copied swapped removed
 tuples-written = record {
   first = refl;
   second = refl;
@@ -75,10 +83,16 @@ tuples-written = record {
   only = refl;
   reused = refl;
   reused-last = refl;
+  copied-down = refl;
+  copied-up = refl;
+  copied-itself = refl;
+  swapped-both = refl;
+  swapped-back = refl;
+  swapped-itself = refl;
 }
 
 rows-written : Writes rowWidth (rowWords r₁) (rowWords r₂) (rowWords r₃)
-unfolding counted appended removed
+unfolding counted appended copied swapped removed
 rows-written = record {
   first = refl;
   second = refl;
@@ -87,6 +101,12 @@ rows-written = record {
   only = refl;
   reused = refl;
   reused-last = refl;
+  copied-down = refl;
+  copied-up = refl;
+  copied-itself = refl;
+  swapped-both = refl;
+  swapped-back = refl;
+  swapped-itself = refl;
 }
 
 -- ---- what is sound: no record, one, two; and what is not: a count above capacity, whatever the records; a last word,
@@ -141,8 +161,8 @@ record Looks {A : Type 0} (words : A → List ℕ) (times place : A → List ℕ
   past : times b (1 ∷ (words a ++ words b)) ≡ 0
   past-end : place b (1 ∷ (words a ++ words b)) ≡ 1
 
-tuples-looked : Looks tupleWords timesOfTuple placeOfTuple t₁ t₂ t₃
-unfolding counted recordsIn tuplesIn timesOfTuple placeOfTuple sameTuple sameInterval
+tuples-looked : Looks tupleWords (λ t part. times sameTuple t (tuplesIn part)) placeOfTuple t₁ t₂ t₃
+unfolding counted recordsIn tuplesIn placeOfTuple sameTuple sameInterval
 tuples-looked = record {
   twice = refl;
   first-of = refl;

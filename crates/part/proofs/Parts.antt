@@ -1,8 +1,8 @@
 -- Laws of one partition as words (specs/Part), over the width w of a record.
 -- In order: runs of stores and the room of records; the part after an append and after a removal, as its count word and
--- the words after it; the stores of a removal; lengths and counts; each record, no records, the records after an append
--- and after a removal; the same of tuples and of rows, and their words; what a sound part is, and that it stays sound;
--- an empty part; the place that a removal frees.
+-- the words after it; lengths and counts; each record, no records, the records after an append and after a removal; the
+-- same of tuples and of rows, and their words; what a sound part is, and that it stays sound; an empty part; the place
+-- that a removal frees. Records moved within a part are in Movers.
 -- Assumes nothing.
 use mathlib.Core.Bool.{Bool, true}
 use mathlib.Core.List.{List, [], _∷_, _++_, map, map-append}
@@ -23,12 +23,10 @@ use Rattle.lists.specs.Words.{partAt, zeros, recordsOf, recordAt}
 use Rattle.lists.proofs.Choice.{and-left, and-right, and-both}
 use Rattle.lists.proofs.Members.{all-append, all-getD}
 use Rattle.lists.proofs.Same.{same-overwrite}
-use Rattle.lists.proofs.Parts.{start-next, start-le, start-within, length-part, part-drop, length-put, sets-put}
+use Rattle.lists.proofs.Parts.{start-next, start-le, start-within, length-part, part-drop, length-put, sets-put, drop-sets}
 use Rattle.lists.proofs.Words.{zeros-append, zeros-replicate, zeros-drop, zeros-are}
 use Rattle.lists.proofs.Records.{length-records, record-length, record-at, records-take-fewer, records-put}
 use Rattle.lists.proofs.Records.{records-past, records-append}
-use Rattle.lists.proofs.Parts.{reads-part}
-use Rattle.interval.proofs.Tuples.{words-of-tuple, words-of-row}
 use Rattle.interval.specs.Tuple.{tupleWidth, tupleOf, tupleWords, sameTuple, rowWidth, rowOf, rowWords, sameRow}
 use Rattle.interval.specs.declared.tuple.Tuple.{Tuple}
 use Rattle.interval.specs.declared.tuple.Row.{Row}
@@ -36,11 +34,6 @@ use Rattle.part.specs.Part.{roomOf, counted, recordsIn, tuplesIn, rowsIn
 use Rattle.part.specs.Part.{appended, removed}
 
 -- ---- runs of stores, and the room of records
-
--- what lies after a run of stores is as it was
-drop-sets : (n : ℕ) (xs : List ℕ) (i : ℕ) (vs : List ℕ) → i + length vs ≤ n → drop n (sets xs i vs) ≡ drop n xs
-drop-sets n xs i [] h = refl
-drop-sets n xs i (v ∷ vs) h = drop-sets n (set xs i v) (suc i) vs (omega arith) ∙ drop-set-lt n xs i v (omega arith)
 
 -- a run of stores after the count word
 sets-suc : (m : ℕ) (ws : List ℕ) (i : ℕ) (vs : List ℕ) → sets (m ∷ ws) (suc i) vs ≡ m ∷ sets ws i vs
@@ -52,20 +45,20 @@ start-is : (w k : ℕ) → roomOf w k ≡ suc (k * w)
 start-is w k = one-add (w * k) ∙ ap suc (mul-comm w k)
 
 -- the room of fewer records, of one more, of a record among n, and of the last of n
-room-le : (w k n : ℕ) → k ≤ n → roomOf w k ≤ roomOf w n
+pub room-le : (w k n : ℕ) → k ≤ n → roomOf w k ≤ roomOf w n
 room-le w k n h = omega (arith, start-le k n w h, mul-comm w k, mul-comm w n)
 
-room-next : (w n : ℕ) → roomOf w (n + 1) ≡ roomOf w n + w
+pub room-next : (w n : ℕ) → roomOf w (n + 1) ≡ roomOf w n + w
 room-next w n = omega (arith, start-next n w, mul-comm w (n + 1), mul-comm w n)
 
-room-within : (w k n : ℕ) → k < n → roomOf w k + w ≤ roomOf w n
+pub room-within : (w k n : ℕ) → k < n → roomOf w k + w ≤ roomOf w n
 room-within w k n h = omega (arith, start-within k n w h, mul-comm w k, mul-comm w n)
 
-room-last : (w n : ℕ) → 0 < n → roomOf w (n - 1) + w ≡ roomOf w n
+pub room-last : (w n : ℕ) → 0 < n → roomOf w (n - 1) + w ≡ roomOf w n
 room-last w n h = sym (room-next w (n - 1)) ∙ ap (roomOf w) (omega arith)
 
 -- a run of k stores, as a part put back
-stores : (i k : ℕ) (xs vs : List ℕ) → length vs ≡ k → i + k ≤ length xs → sets xs i vs ≡ putMid i k xs vs
+pub stores : (i k : ℕ) (xs vs : List ℕ) → length vs ≡ k → i + k ≤ length xs → sets xs i vs ≡ putMid i k xs vs
 stores i k xs vs e h = sets-put i xs vs (omega arith) ∙ ap (λ (n : ℕ). putMid i n xs vs) e
 
 -- ---- a part as its count word and the words after it, after an append and after a removal
@@ -83,15 +76,6 @@ module _ (w m : ℕ) (ws : List ℕ) where
       rw (start-is w k, start-is w (m - 1))
       (ap (λ (l : List ℕ). sets l (suc ((m - 1) * w)) (replicate w 0)) (sets-suc (m - 1) ws (k * w) last)
       ∙ sets-suc (m - 1) (sets ws (k * w) last) ((m - 1) * w) (replicate w 0))
-
--- ---- the stores of a removal: the last record's words over record k, then zeros over the last record's
-
-pub removed-by : (w k : ℕ) (part last none over whole : List ℕ)
-    → last ≡ partAt (roomOf w (counted part - 1)) w part → none ≡ replicate w 0
-    → over ≡ sets (set part 0 (counted part - 1)) (roomOf w k) last
-    → whole ≡ sets over (roomOf w (counted part - 1)) none → whole ≡ removed w k part
-unfolding removed
-removed-by w k part last none over whole l z o e = cc
 
 -- ---- lengths and counts
 
@@ -215,13 +199,6 @@ module _ {A : Type 0} (f : List ℕ → A) (w : ℕ) where
   value-in k part d h =
       map-getD f (recordsIn w part) k d [] (omega (arith, length-records-in w part)) ∙ ap f (record-in w k part [] h)
 
-  -- the words of value k, as a part of the whole, where its words are those that it is made of
-  words-of-value : (words : A → List ℕ) → ((ws : List ℕ) → length ws ≡ w → words (f ws) ≡ ws) → (k : ℕ) (part : List ℕ)
-      → roomOf w (k + 1) ≤ length part → words (f (recordAt w k (drop 1 part))) ≡ partAt (roomOf w k) w part
-  words-of-value words back k part h =
-      rw (record-part w k part)
-      (back (partAt (roomOf w k) w part) (length-part (roomOf w k) w part (omega (arith, room-next w k))))
-
   -- the values after an append
   values-appended : (r part : List ℕ) → roomOf w (counted part + 1) ≤ length part → length r ≡ w
       → map f (recordsIn w (appended w r part)) ≡ map f (recordsIn w part) ++ (f r ∷ [])
@@ -246,22 +223,10 @@ module _ {A : Type 0} (f : List ℕ → A) (w : ℕ) where
           ∙ map-take f (counted part - 1) (set (recordsIn w part) k (getD (recordsIn w part) (counted part - 1) []))
           ∙ rw (map-set f (recordsIn w part) k, List·getD-map f (recordsIn w part) (counted part - 1) [])
 
--- tuple k, by its words
-pub tuple-words : (k : ℕ) (part : List ℕ) → roomOf tupleWidth (k + 1) ≤ length part
-    → tupleAt part k
-    ≡ (let at = roomOf tupleWidth k in
-    let word : ℕ → ℕ = λ j. getD part (at + j) 0 in
-    tupleOf (getD part at 0 ∷ (word 1 ∷ (word 2 ∷ (word 3 ∷ [])))))
+-- tuple k, by its words as a part of the whole
+pub tuple-part : (k : ℕ) (part : List ℕ) → tupleAt part k ≡ tupleOf (partAt (roomOf tupleWidth k) tupleWidth part)
 unfolding tupleAt
-tuple-words k part h =
-    let at = roomOf tupleWidth k in
-    rw (record-part tupleWidth k part, ← reads-part tupleWidth at 0 part (omega arith)) (simp add-zero)
-
--- its words, as a part of the whole
-pub words-of-tuple-at : (k : ℕ) (part : List ℕ) → roomOf tupleWidth (k + 1) ≤ length part
-    → tupleWords (tupleAt part k) ≡ partAt (roomOf tupleWidth k) tupleWidth part
-unfolding tupleAt
-words-of-tuple-at k part h = words-of-value tupleOf tupleWidth tupleWords words-of-tuple k part h
+tuple-part k part = ap tupleOf (record-part tupleWidth k part)
 
 -- there are as many tuples as the count says
 pub length-tuples : (part : List ℕ) → length (tuplesIn part) ≡ counted part
@@ -290,22 +255,10 @@ pub tuples-none : (part : List ℕ) → counted part ≡ 0 → tuplesIn part ≡
 unfolding tuplesIn
 tuples-none part e = ap (map tupleOf) (records-none tupleWidth part e)
 
--- row k, by its words
-pub row-words : (k : ℕ) (part : List ℕ) → roomOf rowWidth (k + 1) ≤ length part
-    → rowAt part k
-    ≡ (let at = roomOf rowWidth k in
-    let word : ℕ → ℕ = λ j. getD part (at + j) 0 in
-    rowOf (getD part at 0 ∷ (word 1 ∷ (word 2 ∷ (word 3 ∷ (word 4 ∷ []))))))
+-- row k, by its words as a part of the whole
+pub row-part : (k : ℕ) (part : List ℕ) → rowAt part k ≡ rowOf (partAt (roomOf rowWidth k) rowWidth part)
 unfolding rowAt
-row-words k part h =
-    let at = roomOf rowWidth k in
-    rw (record-part rowWidth k part, ← reads-part rowWidth at 0 part (omega arith)) (simp add-zero)
-
--- its words, as a part of the whole
-pub words-of-row-at : (k : ℕ) (part : List ℕ) → roomOf rowWidth (k + 1) ≤ length part
-    → rowWords (rowAt part k) ≡ partAt (roomOf rowWidth k) rowWidth part
-unfolding rowAt
-words-of-row-at k part h = words-of-value rowOf rowWidth rowWords words-of-row k part h
+row-part k part = ap rowOf (record-part rowWidth k part)
 
 -- there are as many rows as the count says
 pub length-rows : (part : List ℕ) → length (rowsIn part) ≡ counted part

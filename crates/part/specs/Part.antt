@@ -50,16 +50,22 @@ soundPart w capacity ok part =
 unfoldable pub appended : ℕ → List ℕ → List ℕ → List ℕ
 appended w words part = sets (set part 0 (counted part + 1)) (roomOf w (counted part)) words
 
+-- record i's words over record k
+unfoldable pub copied : ℕ → ℕ → ℕ → List ℕ → List ℕ
+copied w i k part = sets part (roomOf w k) (partAt (roomOf w i) w part)
+
+-- records i and k, each in the other's place
+unfoldable pub swapped : ℕ → ℕ → ℕ → List ℕ → List ℕ
+swapped w i k part = sets (copied w k i part) (roomOf w k) (partAt (roomOf w i) w part)
+
 -- record k "overwritten by the lane's last record, whose words become 0", the count word one down
 unfoldable pub removed : ℕ → ℕ → List ℕ → List ℕ
 removed w k part =
     let last = roomOf w (counted part - 1) in
     sets (sets (set part 0 (counted part - 1)) (roomOf w k) (partAt last w part)) last (replicate w 0)
 
--- how often a row, a tuple stands in a partition, and the place of the first, or the count where there is none
-unfoldable pub timesOfTuple : Tuple → List ℕ → ℕ
-timesOfTuple t part = times sameTuple t (tuplesIn part)
-
+-- how often a row stands in a partition, and the place of the first equal tuple, of the first equal row, or the count
+-- where there is none
 unfoldable pub timesOfRow : Row → List ℕ → ℕ
 timesOfRow r part = times sameRow r (rowsIn part)
 

@@ -7,7 +7,9 @@ ghost use Rattle.interval.specs.Tuple.{tupleWidth, tupleWords, rowWidth, rowWor
 ghost use Rattle.plan.specs.Plan.{planNumber};
 ghost use Rattle.part.specs.Part.{roomOf, counted, appended, removed};
 ghost use Rattle.store.specs.Store.{tupleRoom, rowRoom, fitsTuples, fitsRows, partitionAt, onPartition};
+use interval::tuple::ROW_WIDTH;
 use interval::tuple::Row;
+use interval::tuple::TUPLE_WIDTH;
 use interval::tuple::Tuple;
 use plan::PartitionIndex;
 use plan::Partitioning;
@@ -17,7 +19,7 @@ pub fn tuple_room(p: Partitioning) -> usize
     requires { ⌜ planNumber p ≡ 0 ⌝ }
     ensures { λ r. ⌜ r ≡ tupleRoom p ⌝ }
 {
-    1 + 4 * (p.tuples as usize)
+    1 + TUPLE_WIDTH * (p.tuples as usize)
 }
 
 // The words of one partition of the rows store.
@@ -25,7 +27,7 @@ pub fn row_room(p: Partitioning) -> usize
     requires { ⌜ planNumber p ≡ 0 ⌝ }
     ensures { λ r. ⌜ r ≡ rowRoom p ⌝ }
 {
-    1 + 5 * (p.rows as usize)
+    1 + ROW_WIDTH * (p.rows as usize)
 }
 
 // Whether a tuple store's length is what a legal plan gives.
@@ -76,26 +78,14 @@ pub fn append_row(store: &mut [u64], room: usize, i: PartitionIndex, row: Row)
     part::append_row(&mut store[at..end], row);
 }
 
-// Takes record k out of partition i of a tuple store; every other word stays.
-pub fn remove_tuple(store: &mut [u64], room: usize, i: PartitionIndex, k: usize)
+// Takes record k, of that width, out of partition i; every other word stays.
+pub fn remove(store: &mut [u64], width: usize, room: usize, i: PartitionIndex, k: usize)
     requires { ⌜ i .0 * room + room ≤ length (now store) ⌝ }
     requires { ⌜ k < counted (partitionAt room (now store) (i .0)) ⌝ }
-    requires { ⌜ roomOf tupleWidth (counted (partitionAt room (now store) (i .0))) ≤ room ⌝ }
-    ensures { λ _. ⌜ now (store .exit) ≡ onPartition room (i .0) (removed tupleWidth k) (now (store .entry)) ⌝ }
+    requires { ⌜ roomOf width (counted (partitionAt room (now store) (i .0))) ≤ room ⌝ }
+    ensures { λ _. ⌜ now (store .exit) ≡ onPartition room (i .0) (removed width k) (now (store .entry)) ⌝ }
 {
     let at = i.0 as usize * room;
     let end = at + room;
-    part::remove_tuple(&mut store[at..end], k);
-}
-
-// Takes record k out of partition i of the rows store; every other word stays.
-pub fn remove_row(store: &mut [u64], room: usize, i: PartitionIndex, k: usize)
-    requires { ⌜ i .0 * room + room ≤ length (now store) ⌝ }
-    requires { ⌜ k < counted (partitionAt room (now store) (i .0)) ⌝ }
-    requires { ⌜ roomOf rowWidth (counted (partitionAt room (now store) (i .0))) ≤ room ⌝ }
-    ensures { λ _. ⌜ now (store .exit) ≡ onPartition room (i .0) (removed rowWidth k) (now (store .entry)) ⌝ }
-{
-    let at = i.0 as usize * room;
-    let end = at + room;
-    part::remove_row(&mut store[at..end], k);
+    part::remove(&mut store[at..end], width, k);
 }

@@ -1,70 +1,24 @@
--- `part::tuple_at` meets its contract: the four words from 1 + 4 * k on are tuple k.
+-- `part::tuple_at` meets its contract: the words from 1 + TUPLE_WIDTH * k on are tuple k's (`tuple-part`).
 -- Assumes nothing.
-use mathlib.Core.Path.{sym}
+use mathlib.Core.Path.{sym, _∙_}
 use borrow.Author.Needs.{needs}
-use Rattle.part.proofs.Parts.{tuple-words}
+use Rattle.part.proofs.Parts.{tuple-part}
 use Rattle.part.proofs.tuple_at.Statement.{statement}
 use Rattle.part.proofs.tuple_at.Tie as tie
 
-mul-at : tie.Need-mul-at
-mul-at c = search needs
+mul-read-tuple : tie.Need-mul-read-tuple
+mul-read-tuple c = search needs
 
-add-at : tie.Need-add-at
-add-at c = search needs
+add-read-tuple : tie.Need-add-read-tuple
+add-read-tuple c = search needs
 
-mul-t4 : tie.Need-mul-t4
-mul-t4 c = search needs
-
-shared-slice-read-t6 : tie.Need-shared-slice-read-t6
-shared-slice-read-t6 c = search needs
-
-add-t7 : tie.Need-add-t7
-add-t7 c = search needs
-
-mul-t8 : tie.Need-mul-t8
-mul-t8 c = search needs
-
-shared-slice-read-t10 : tie.Need-shared-slice-read-t10
-shared-slice-read-t10 c = search needs
-
-add-t11 : tie.Need-add-t11
-add-t11 c = search needs
-
-mul-t12 : tie.Need-mul-t12
-mul-t12 c = search needs
-
-shared-slice-read-t14 : tie.Need-shared-slice-read-t14
-shared-slice-read-t14 c = search needs
-
-add-t16 : tie.Need-add-t16
-add-t16 c = search needs
-
-mul-t17 : tie.Need-mul-t17
-mul-t17 c = search needs
-
-shared-slice-read-t19 : tie.Need-shared-slice-read-t19
-shared-slice-read-t19 c = search needs
+read-tuple-requires : tie.Need-read-tuple-requires
+read-tuple-requires c κs = search needs
 
 returns : tie.Need-returns
 returns c =
-    let start = c .before .before .before .before in
-    sym (tuple-words (start .args .k) (start .args .part .now) (start .pre))
+    let a = c .before .before .args in
+    c .read-tuple .ensures ∙ sym (tuple-part (a .k) (a .part .now))
 
 pub tuple-at-spec : {M : Type 1} → statement M
-tuple-at-spec =
-    tie.close
-    (tie.spec
-    mul-at
-    add-at
-    mul-t4
-    shared-slice-read-t6
-    add-t7
-    mul-t8
-    shared-slice-read-t10
-    add-t11
-    mul-t12
-    shared-slice-read-t14
-    add-t16
-    mul-t17
-    shared-slice-read-t19
-    returns)
+tuple-at-spec = tie.close (tie.spec mul-read-tuple add-read-tuple read-tuple-requires returns)

@@ -1,0 +1,49 @@
+-- `store::remove` meets its contract: the partition is lent to the writer and put back.
+-- Assumes nothing.
+use Prim.Native.Nat.{_*_}
+use Rattle.part.specs.Part.{removed}
+use Rattle.store.proofs.StoreLoops.{lent-is, lent-room, put-back}
+use borrow.Author.Needs.{needs}
+use Rattle.store.proofs.remove.Statement.{statement}
+use Rattle.store.proofs.remove.Tie as tie
+
+mul-at : tie.Need-mul-at
+mul-at c = search needs
+
+add-end : tie.Need-add-end
+add-end c = search needs
+
+mul-remove : tie.Need-mul-remove
+mul-remove c = search needs
+
+sub-remove : tie.Need-sub-remove
+sub-remove c = search needs
+
+part-remove-start : tie.Need-part-remove-start
+part-remove-start c = search needs
+
+part-remove-end : tie.Need-part-remove-end
+part-remove-end c = search needs
+
+remove-requires : tie.Need-remove-requires
+remove-requires c κs = let a = c .before .before .args in let at = a .i .0 * a .room in (rw (lent-is at (a .room) (a .store .now)) (c .before .before .pre .1 .0), lent-room _ at (a .room) (a .store .now) (c .before .before .pre .0) (rw (lent-is at (a .room) (a .store .now)) (c .before .before .pre .1 .1)))
+
+same-length : tie.Need-same-length
+same-length c = search needs
+
+returns : tie.Need-returns
+returns c = let a = c .before .before .before .before .before .args in put-back (removed (a .width) (a .k)) (a .i .0 * a .room) (a .room) (a .store .now) _ (c .before .before .remove .ensures)
+
+pub remove-spec : {M : Type 1} → statement M
+remove-spec =
+    tie.close
+    (tie.spec
+    mul-at
+    add-end
+    mul-remove
+    sub-remove
+    part-remove-start
+    part-remove-end
+    remove-requires
+    same-length
+    returns)
