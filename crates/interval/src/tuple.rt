@@ -11,6 +11,7 @@ pub const ITEM_END: u64 = 999_999;
 
 // The words of a tuple, and of a row.
 pub const TUPLE_WIDTH: usize = 4;
+
 pub const ROW_WIDTH: usize = 5;
 
 // A tuple of document 01: a drawing or a spot (002: a tuple of the outer or the inner relation).
