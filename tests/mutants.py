@@ -148,7 +148,7 @@ EDITS = [
         'let added = add(cache, n, part, last);\n    purge(cache, added, last)',
     ),
     ('cache/lib.rt', 'add(cache, kept, part, last)', 'add(cache, n, part, last)'),
-    ('cache/lib.rt', 'let tuples = started_from(store, room, i + 1,', 'let tuples = started_from(store, room, i,'),
+    ('cache/lib.rt', 'let above = i + 1;', 'let above = i;'),
     ('cache/lib.rt', 'if most < tuples {', 'if true {'),
     (
         'sweep/partitions.rt',
@@ -156,37 +156,37 @@ EDITS = [
         'let mut k: usize = 0;\n    while k < d {\n        let mut l: usize = 0;\n        while l < c {\n'
         '            let pair = rows::oriented(Side::Outer, cache::tuple(outer_cache, l), cache::tuple(inner_cache, k));\n'
         '            if let rows::Pair::Makes(row) = pair {\n'
-        '                store::append_row(rows, size, PartitionIndex(i), row);\n            }\n'
+        '                store::append_row(rows, room, i, row);\n            }\n'
         '            l += 1;\n        }\n        k += 1;\n    }\n    own_own + (own_cached + cached_own)',
     ),
-    ('sweep/partitions.rt', 'join_run(Side::Inner, inner_cache, d, outer, rows, size, i)', '0'),
-    ('sweep/partitions.rt', 'join_run(Side::Outer, outer_cache, c, inner, rows, size, i)', '0'),
+    ('sweep/partitions.rt', 'join_run(Side::Inner, inner_cache, d, outer, rows, room, i)', '0'),
+    ('sweep/partitions.rt', 'join_run(Side::Outer, outer_cache, c, inner, rows, room, i)', '0'),
     ('sweep/partitions.rt', 'own_own + (own_cached + cached_own)', 'own_own + (own_own + (own_cached + cached_own))'),
     ('sweep/partitions.rt', 'own_own + (own_cached + cached_own)', 'own_own + own_cached'),
     ('sweep/partitions.rt', 'part::clear(rows);', ''),
     ('sweep/partitions.rt', 'let last = lasts[i.0 as usize - 1];', 'let last = lasts[i.0 as usize];'),
     ('sweep/count.rt', 'if p.rows < rows_of(', 'if p.rows <= rows_of('),
-    ('sweep/count.rt', 'i.0 + 1, p.count, last, own_outer)', 'i.0, p.count, last, own_outer)'),
+    ('sweep/count.rt', 'let above = i.0 + 1;', 'let above = i.0;'),
     ('join/lib.rt', 'changed: written,', 'changed: compared,'),
-    ('join/lib.rt', 'if outer_cache < 4 * cache::need(', 'if outer_cache <= 4 * cache::need('),
-    ('join/lib.rt', 'if inner_cache < 4 * cache::need(', 'if inner_cache + 1 < 4 * cache::need('),
-    ('join/lib.rt', 'if inner_cache < 4 * cache::need(p, inner)', 'if inner_cache < 4 * cache::need(p, outer)'),
-    ('join/lib.rt', '        return 14;\n    }\n    if sweep::', '        return 10;\n    }\n    if sweep::'),
+    ('join/lib.rt', 'words < TUPLE_WIDTH * need', 'words <= TUPLE_WIDTH * need'),
+    ('join/lib.rt', 'words < TUPLE_WIDTH * need', 'words + 1 < TUPLE_WIDTH * need'),
+    ('join/lib.rt', 'if is_short(p, inner, inner_cache) {', 'if is_short(p, outer, inner_cache) {'),
+    ('join/lib.rt', '        return 14;\n    }\n    0', '        return 10;\n    }\n    0'),
     ('join/lib.rt', 'if sweep::count::overfull(p, outer, inner) {', 'if false {'),
     (
         'join/lib.rt',
-        'if outer_cache < 4 * cache::need(',
-        'if sweep::count::overfull(p, outer, inner) {\n        return 10;\n    }\n    if outer_cache < 4 * cache::need(',
+        'if is_short(p, outer, outer_cache) {',
+        'if sweep::count::overfull(p, outer, inner) {\n        return 10;\n    }\n    if is_short(p, outer, outer_cache) {',
     ),
     (
         'join/lib.rt',
-        'if tight != 0 {\n        return checks::refused(tight);',
-        'if tight != 0 {\n        part::clear(outer_cache);\n        return checks::refused(tight);',
+        'if space != 0 {\n        return checks::refused(space);',
+        'if space != 0 {\n        part::clear(outer_cache);\n        return checks::refused(space);',
     ),
     (
         'join/lib.rt',
-        'if tight != 0 {\n        return checks::refused(tight);',
-        'if tight != 0 {\n        part::clear(rows);\n        return checks::refused(tight);',
+        'if space != 0 {\n        return checks::refused(space);',
+        'if space != 0 {\n        part::clear(rows);\n        return checks::refused(space);',
     ),
     # the repartition
     ('join/lib.rt', 'plan: plan::with_cuts(p, new),', 'plan: p,'),
@@ -322,7 +322,8 @@ def crates():
 
 # One file as Rust, a module of the one crate that all become.
 def as_rust(text, crate, names):
-    text = re.sub(r'(?m)^\s*(ghost use|requires|ensures)\b.*\n', '', text)
+    text = re.sub(r'(?m)^\s*ghost use\b.*\n', '', text)
+    text = re.sub(r'(?ms)^\s*(requires|ensures)\b.*?⌝ \}\n', '', text)
     text = re.sub(r'(?m)^((pub(\(crate\))? )?(struct|enum) )', r'#[derive(Clone, Copy)]\n\1', text)
     text = re.sub(r'\bcrate::', f'crate::{crate}::', text)
     text = re.sub(r'(?<![\w:])(' + '|'.join(names) + r')::', r'crate::\1::', text)

@@ -39,7 +39,7 @@ module _ (m : Machine) (p : Partitioning) (s s′ : Stores) (c d c′ d′ : Lis
         inner = rw (r .inner) (k .inner);
         rows =
             rows-held-same p (s′ .rows) (joined p (s .outer) (s .inner)) (joinOf (m .outer) (m .inner))
-            (record { long = r .long ∙ k .rows .long; sound = r .sound; held = r .held })
+            (record { long = r .rows .long ∙ k .rows .long; sound = r .rows .sound; held = r .rows .held })
             (joined-held p (s .outer) (s .inner) (m .outer) (m .inner) (k .outer) (k .inner));
       }
 

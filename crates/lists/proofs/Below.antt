@@ -9,13 +9,13 @@ use Prim.Native.Nat.{ℕ, zero, suc, _+_, _-_, _≤_, _<_}
 use native.Mathlib.Nat.{add-zero, zero-add, not-suc-le-zero, le-of-suc-le-suc}
 use native.Mathlib.Numerals.{add-one}
 use native.Mathlib.Omega.{arith}
-use lib.Dec.{eqb}
+use lib.Dec.{eqb, leb}
 use lib.ListN.{length, getD}
-use borrow.Author.Tests.{eqb-true, eqb-false, eq-eqb, ne-eqb}
+use borrow.Author.Tests.{eqb-true, eqb-false, eq-eqb, ne-eqb, le-leb, lt-leb}
 use Rattle.lists.specs.Choice.{pick}
 use Rattle.lists.specs.Members.{all, any, keep, total, gather, placeOf, upFrom, below}
 use Rattle.lists.proofs.Choice.{bool-cases, or-left, or-right}
-use Rattle.lists.proofs.Members.{all-map, all-getD, getD-all}
+use Rattle.lists.proofs.Members.{all-map, all-getD, getD-all, keep-append}
 use Rattle.lists.proofs.Tally.{total-add, total-map, total-keep, place-found, place-is}
 use Rattle.lists.proofs.Gather.{gather-map, gather-pick}
 
@@ -160,3 +160,20 @@ total-more f g n i c l h e =
         go : (eqb j i ≡ true) ⊎ (eqb j i ≡ false) → g j ≡ pick (eqb j i) c 0 + f j
         go (inl q) = rw (q, eqb-true j i q) e
         go (inr q) = rw (q, zero-add) (h j m (eqb-false j i q))
+
+-- the numbers below n that are at least a: of those from b on, all and none; of all
+up-kept : (a b m : ℕ) → a ≤ b → keep (leb a) (upFrom b m) ≡ upFrom b m
+up-kept a b zero l = refl
+up-kept a b (suc m) l = rw (le-leb a b l, up-kept a (suc b) m (omega arith))
+
+up-dropped : (a b m : ℕ) → b + m ≤ a → keep (leb a) (upFrom b m) ≡ []
+up-dropped a b zero l = refl
+up-dropped a b (suc m) l = rw (lt-leb a b (omega arith), up-dropped a (suc b) m (omega arith))
+
+pub below-from : (a n : ℕ) → a ≤ n → keep (leb a) (below n) ≡ upFrom a (n - a)
+below-from a n l =
+    let e : n ≡ a + (n - a) = omega arith in
+    ap (λ (k : ℕ). keep (leb a) (below k)) e
+    ∙ ap (keep (leb a)) (up-split 0 a (n - a))
+    ∙ keep-append (leb a) (upFrom 0 a) (upFrom (0 + a) (n - a))
+    ∙ rw (up-dropped a 0 a (omega arith), zero-add) (up-kept a a (n - a) (omega arith))

@@ -2,15 +2,18 @@
 -- In order: equal tests; all and any of ++ and map, member by member, along a loop that goes up, of one another; keep.
 use mathlib.Core.Bool.{Bool, true, false, not, _&&_, _||_, and-assoc, or-assoc}
 use mathlib.Core.List.{List, [], _∷_, _++_, map}
-use mathlib.Core.Path.{_≡_, refl, ap, fun-ext}
+use mathlib.Core.Path.{_≡_, refl, sym, ap, _∙_, fun-ext}
 use Prim.Native.Nat.{ℕ, zero, suc, _+_, _≤_, _<_, suc-le-suc}
 use native.Mathlib.Nat.{le-of-suc-le-suc, not-suc-le-zero, zero-lt-suc}
 use native.Mathlib.Numerals.{add-one}
+use lib.Dec.{eqb}
 use lib.ListN.{length, getD, drop, drop-of-length-le}
 use lib.Seq.{drop-cons}
+use borrow.Author.Tests.{eqb-true}
 use Rattle.lists.specs.Choice.{pick}
 use Rattle.lists.specs.Members.{all, any, keep}
-use Rattle.lists.proofs.Choice.{and-left, and-right, and-both, or-neither-left, or-neither-right, pick-ap}
+use Rattle.lists.proofs.Choice.{and-left, and-right, and-both, or-neither-left, or-neither-right}
+use Rattle.lists.proofs.Choice.{same-test, pick-same, pick-ap}
 
 -- tests that are equal at each value
 module _ {A : Type 0} (p q : A → Bool) (xs : List A) (h : (x : A) → p x ≡ q x) where
@@ -125,3 +128,24 @@ module _ {A : Type 0} (p : A → Bool) where
   pub keep-map : {B : Type 0} (f : B → A) (xs : List B) → keep p (map f xs) ≡ map f (keep (λ x. p (f x)) xs)
   keep-map f [] = refl
   keep-map f (x ∷ xs) = rw (keep-map f xs, pick-ap (map f) (p (f x)))
+
+-- the members that pass a test are those that pass it of those that pass a weaker one
+pub keep-weaker : {A : Type 0} (p q : A → Bool) (xs : List A) → ((x : A) → p x ≡ true → q x ≡ true)
+    → keep p (keep q xs) ≡ keep p xs
+keep-weaker p q xs h =
+    keep-keep p q xs
+    ∙ keep-cong (λ x. q x && p x) p xs
+    (λ x. same-test (q x && p x) (p x) (and-right (q x) (p x)) (λ e. and-both (q x) (p x) (h x e) e))
+
+-- of members that all have the number k, those whose number passes a test: all or none
+pub keep-at : {A : Type 0} (h : A → ℕ) (r : ℕ → Bool) (k : ℕ) (xs : List A) → all (λ x. eqb (h x) k) xs ≡ true
+    → keep (λ x. r (h x)) xs ≡ pick (r k) xs []
+keep-at h r k [] e = sym (pick-same (r k) [])
+keep-at h r k (x ∷ xs) e =
+    let here = and-left (eqb (h x) k) (all (λ x. eqb (h x) k) xs) e in
+    let rest = and-right (eqb (h x) k) (all (λ x. eqb (h x) k) xs) e in
+    rw (eqb-true (h x) k here, keep-at h r k xs rest) (go (r k))
+  where
+    go : (b : Bool) → pick b (x ∷ pick b xs []) (pick b xs []) ≡ pick b (x ∷ xs) []
+    go true = refl
+    go false = refl

@@ -4,20 +4,32 @@ use mathlib.Core.Bool.{Bool, true, false, _&&_, _||_, false≢true}
 use mathlib.Core.List.{List, [], _∷_, _++_, map}
 use mathlib.Core.Logic.{_⊎_, inl, inr}
 use mathlib.Core.Path.{_≡_, refl, sym, ap, _∙_, fun-ext}
-use Prim.Native.Nat.{ℕ, zero, suc, _+_, _≤_, _<_, suc-le-suc}
-use native.Mathlib.Nat.{le-of-suc-le-suc, not-suc-le-zero, zero-lt-suc}
+use Prim.Native.Nat.{ℕ, zero, suc, _+_, _*_, _≤_, _<_, suc-le-suc}
+use native.Mathlib.Nat.{le-of-suc-le-suc, not-suc-le-zero, zero-lt-suc, suc-mul}
 use native.Mathlib.Numerals.{add-one}
 use native.Mathlib.Omega.{arith}
 use lib.ListN.{length, getD, drop, drop-of-length-le}
 use lib.Seq.{drop-cons}
 use Rattle.lists.specs.Choice.{pick}
-use Rattle.lists.specs.Members.{any, keep, tally, total, without, placeOf}
-use Rattle.lists.proofs.Choice.{bool-cases, or-neither-left, or-neither-right}
+use Rattle.lists.specs.Members.{all, any, keep, tally, total, without, placeOf}
+use Rattle.lists.proofs.Choice.{bool-cases, and-left, and-right, or-neither-left, or-neither-right}
 use Rattle.lists.proofs.Members.{keep-keep, keep-none}
 
 -- numbers that are equal at each value
 pub total-cong : {A : Type 0} (f g : A → ℕ) (xs : List A) → ((x : A) → f x ≡ g x) → total f xs ≡ total g xs
 total-cong {A} f g xs h = ap (λ (r : A → ℕ). total r xs) (fun-ext h)
+
+-- numbers that are equal at each member that passes a test
+pub total-agree : {A : Type 0} (p : A → Bool) (f g : A → ℕ) (xs : List A) → all p xs ≡ true
+    → ((x : A) → p x ≡ true → f x ≡ g x) → total f xs ≡ total g xs
+total-agree p f g [] e h = refl
+total-agree p f g (x ∷ xs) e h =
+    rw (h x (and-left (p x) (all p xs) e), total-agree p f g xs (and-right (p x) (all p xs) e) h)
+
+-- at most b for each member
+pub total-most : {A : Type 0} (f : A → ℕ) (b : ℕ) (xs : List A) → ((x : A) → f x ≤ b) → total f xs ≤ length xs * b
+total-most f b [] h = omega arith
+total-most f b (x ∷ xs) h = omega (arith, h x, total-most f b xs h, suc-mul (length xs) b)
 
 -- no number at each member, one, and the sum of two
 pub total-zero : {A : Type 0} (xs : List A) → total (λ x. 0) xs ≡ 0
@@ -190,3 +202,7 @@ module _ {A : Type 0} (p : A → Bool) where
   without-none [] e = refl
   without-none (x ∷ xs) e =
       rw (or-neither-left (p x) (any p xs) e, without-none xs (or-neither-right (p x) (any p xs) e))
+
+-- no more members pass a test than there are
+pub keep-most : {A : Type 0} (p : A → Bool) (xs : List A) → length (keep p xs) ≤ length xs
+keep-most p xs = omega (arith, length-keep p xs, tally-le p xs)
