@@ -15,6 +15,15 @@ use Rattle.plan.specs.declared.Bounds.{Bounds}
 use Rattle.plan.specs.declared.Bounds.the-variants.{Within, Outside}
 
 -- "a lane count n (1 to 64) .. a tuple capacity (1 to 512) and a row capacity (1 to 4,096)"
+abbrev pub mostPartitions : ℕ
+mostPartitions = 64
+
+abbrev pub mostTuples : ℕ
+mostTuples = 512
+
+abbrev pub mostRows : ℕ
+mostRows = 4096
+
 abbrev pub outside : ℕ → ℕ → ℕ → Bool
 outside least most n = ltb n least || ltb most n
 
