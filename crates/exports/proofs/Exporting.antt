@@ -11,16 +11,17 @@ use borrow.Author.Tests.{eq-eqb, ne-eqb}
 use Rattle.lists.proofs.Choice.{and-both}
 use Rattle.interval.specs.declared.time.Chronon.{Chronon}
 use Rattle.interval.specs.declared.tuple.Tuple.{Tuple}
-use Rattle.plan.specs.Plan.{numbers}
+use Rattle.plan.specs.Plan.{mostPartitions, numbers}
 use Rattle.plan.specs.declared.Partitioning.{Partitioning}
 use Rattle.rows.specs.declared.Side.{Side}
 use Rattle.checks.specs.Stores.{Stores}
 use Rattle.checks.specs.declared.Answer.{Answer}
 use Rattle.join.specs.Opening.{Opened}
-use Rattle.join.specs.Changes.{Inserted, Deleted}
 use Rattle.join.specs.Sweeps.{Swept}
 use Rattle.join.specs.Repartitioning.{Repartitioned}
-use Rattle.exports.specs.Exports.{planWords, answerWords, planIn, wordsOf, lengthsAre, Exported}
+use Rattle.exports.specs.Exports.{planHead, planWords, answerWords, planIn, wordsOf, lengthsAre}
+use Rattle.exports.specs.Exports.{Changed, Exported, ChangeExported}
+use Rattle.exports.specs.declared.Kind.{Kind}
 use Rattle.exports.proofs.Words.{plan-put-back}
 
 -- ---- the lengths: of a plan, of an answer, and of both
@@ -37,19 +38,20 @@ lengths-right ws buffer e f =
     and-both (eqb (length ws) planWords) (eqb (length buffer) answerWords) (eq-eqb (length ws) planWords e)
     (eq-eqb (length buffer) answerWords f)
 
--- the same with 64 new last minutes
+-- the same with new last minutes
 pub with-cuts-wrong : (ws buffer cuts : List ℕ) → lengthsAre ws buffer ≡ false
-    → (lengthsAre ws buffer && eqb (length cuts) 64) ≡ false
+    → (lengthsAre ws buffer && eqb (length cuts) mostPartitions) ≡ false
 with-cuts-wrong ws buffer cuts e = rw e
 
-pub cuts-wrong : (ws buffer cuts : List ℕ) → (length cuts ≡ 64 → ⊥)
-    → (lengthsAre ws buffer && eqb (length cuts) 64) ≡ false
-cuts-wrong ws buffer cuts ne = rw (ne-eqb (length cuts) 64 ne) (and-false (lengthsAre ws buffer))
+pub cuts-wrong : (ws buffer cuts : List ℕ) → (length cuts ≡ mostPartitions → ⊥)
+    → (lengthsAre ws buffer && eqb (length cuts) mostPartitions) ≡ false
+cuts-wrong ws buffer cuts ne = rw (ne-eqb (length cuts) mostPartitions ne) (and-false (lengthsAre ws buffer))
 
 pub with-cuts-right : (ws buffer cuts : List ℕ) → length ws ≡ planWords → length buffer ≡ answerWords
-    → length cuts ≡ 64 → (lengthsAre ws buffer && eqb (length cuts) 64) ≡ true
+    → length cuts ≡ mostPartitions → (lengthsAre ws buffer && eqb (length cuts) mostPartitions) ≡ true
 with-cuts-right ws buffer cuts e f g =
-    and-both (lengthsAre ws buffer) (eqb (length cuts) 64) (lengths-right ws buffer e f) (eq-eqb (length cuts) 64 g)
+    and-both (lengthsAre ws buffer) (eqb (length cuts) mostPartitions) (lengths-right ws buffer e f)
+    (eq-eqb (length cuts) mostPartitions g)
 
 -- ---- the call
 
@@ -78,18 +80,27 @@ pub swept-said : (p q : Partitioning) (s : Stores) (c d : List ℕ) (s′ : Stor
     → Swept p s c d s′ c′ d′ a → Swept q s c d s′ c′ d′ a
 swept-said p q s c d s′ c′ d′ a e h = subst (λ v. Swept v s c d s′ c′ d′ a) e h
 
-module _ (p q : Partitioning) (x y : Side) (t u : Tuple) (s s′ : Stores) (a : Answer)
-    (e : p ≡ q) (f : x ≡ y) (g : t ≡ u) where
-  pub inserted-said : Inserted p x t s s′ a → Inserted q y u s s′ a
-  inserted-said d = rw (e, f, g) at d
+pub changed-said : (k : Kind) (p q : Partitioning) (side : Side) (t : Tuple) (s s′ : Stores) (a : Answer) → p ≡ q
+    → Changed k p side t s s′ a → Changed k q side t s s′ a
+changed-said k p q side t s s′ a e d = subst (λ v. Changed k v side t s s′ a) e d
 
-  pub deleted-said : Deleted p x t s s′ a → Deleted q y u s s′ a
-  deleted-said d = rw (e, f, g) at d
+-- a change of an equal kind, side and tuple
+pub changed-as : (k l : Kind) (p : Partitioning) (side : Side) (t : Tuple) (s s′ : Stores) (a : Answer) → k ≡ l
+    → Changed l p side t s s′ a → Changed k p side t s s′ a
+changed-as k l p side t s s′ a e h = subst (λ v. Changed v p side t s s′ a) (sym e) h
+
+pub change-said : (k : Kind) (plan : List ℕ) (x y : Side) (t u : Tuple)
+    (outer inner rows answer outer′ inner′ rows′ answer′ : List ℕ) (n : ℕ) → x ≡ y → t ≡ u
+    → ChangeExported k plan x t outer inner rows answer outer′ inner′ rows′ answer′ n
+    → ChangeExported k plan y u outer inner rows answer outer′ inner′ rows′ answer′ n
+change-said k plan x y t u outer inner rows answer outer′ inner′ rows′ answer′ n e f h =
+    subst (λ v. ChangeExported k plan v u outer inner rows answer outer′ inner′ rows′ answer′ n) e
+    (subst (λ v. ChangeExported k plan x v outer inner rows answer outer′ inner′ rows′ answer′ n) f h)
 
 -- a repartition's also of the words that it leaves
 pub said-cuts : (ws ws′ : List ℕ) (p q : Partitioning) (new new′ : List Chronon) (s s′ : Stores) (a : Answer)
-    → length ws ≡ planWords → length new′ ≡ 64 → p ≡ planIn ws → new ≡ new′ → Repartitioned p new s s′ a q
-    → ws′ ≡ take 3 ws ++ numbers (q .lasts) → Repartitioned (planIn ws) new′ s s′ a (planIn ws′)
+    → length ws ≡ planWords → length new′ ≡ mostPartitions → p ≡ planIn ws → new ≡ new′ → Repartitioned p new s s′ a q
+    → ws′ ≡ take planHead ws ++ numbers (q .lasts) → Repartitioned (planIn ws) new′ s s′ a (planIn ws′)
 said-cuts ws ws′ p q new new′ s s′ a l n e f r h =
     let said = subst (λ v. Repartitioned (planIn ws) v s s′ a q) f (subst (λ v. Repartitioned v new s s′ a q) e r) in
     let back = plan-put-back ws l new′ s s′ a q n said in

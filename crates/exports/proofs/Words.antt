@@ -15,12 +15,12 @@ use lib.Seq.{paste, paste-zero, paste-suc, length-paste, take-all, getD-take, ge
 use borrow.Author.Tests.{eqb-true, eqb-false}
 use Rattle.lists.proofs.Choice.{bool-cases}
 use Rattle.interval.specs.declared.time.Chronon.{Chronon}
-use Rattle.plan.specs.Plan.{numbers, withCuts}
+use Rattle.plan.specs.Plan.{mostPartitions, numbers, withCuts}
 use Rattle.plan.specs.declared.Partitioning.{Partitioning}
 use Rattle.checks.specs.Stores.{Stores}
 use Rattle.checks.specs.declared.Answer.{Answer}
 use Rattle.join.specs.Repartitioning.{Repartitioned}
-use Rattle.exports.specs.Exports.{planWords, minutes, planIn}
+use Rattle.exports.specs.Exports.{planHead, planWords, answerWords, minutes, planIn}
 
 -- ---- copying: the first i members of `source` stand in `whole` from place `at` on, all else as it was
 
@@ -56,7 +56,8 @@ module _ {A : Type 0} (whole : List A) (at : ℕ) (source : List A) where
 
 -- ---- an answer's words
 
-pub three-told : (ws : List ℕ) (x y z : ℕ) → length ws ≡ 3 → set (set (set ws 0 x) 1 y) 2 z ≡ x ∷ (y ∷ (z ∷ []))
+pub three-told : (ws : List ℕ) (x y z : ℕ) → length ws ≡ answerWords
+    → set (set (set ws 0 x) 1 y) 2 z ≡ x ∷ (y ∷ (z ∷ []))
 three-told [] x y z e = absurd (omega arith)
 three-told (a ∷ []) x y z e = absurd (omega arith)
 three-told (a ∷ (b ∷ [])) x y z e = absurd (omega arith)
@@ -73,21 +74,21 @@ pub numbers-of-minutes : (ws : List ℕ) → numbers (minutes ws) ≡ ws
 numbers-of-minutes [] = refl
 numbers-of-minutes (w ∷ ws) = ap (λ (r : List ℕ). w ∷ r) (numbers-of-minutes ws)
 
--- 64 of them, from a place on: how many, and each
-pub length-minutes-at : (from : ℕ) (ws : List ℕ) → from + 64 ≤ length ws
-    → length (minutes (take 64 (drop from ws))) ≡ 64
+-- a plan's, from a place on: how many, and each
+pub length-minutes-at : (from : ℕ) (ws : List ℕ) → from + mostPartitions ≤ length ws
+    → length (minutes (take mostPartitions (drop from ws))) ≡ mostPartitions
 length-minutes-at from ws l = simp (length-map, length-take, length-drop) (omega arith)
 
-pub minute-at : (from i : ℕ) (ws : List ℕ) → i < 64
-    → record { 0 = getD ws (from + i) 0 } ≡ getD (minutes (take 64 (drop from ws))) i (record { 0 = 0 })
+pub minute-at : (from i : ℕ) (ws : List ℕ) → i < mostPartitions
+    → record { 0 = getD ws (from + i) 0 } ≡ getD (minutes (take mostPartitions (drop from ws))) i (record { 0 = 0 })
 minute-at from i ws l =
     sym
-    (List·getD-map (λ (m : ℕ). record { 0 = m }) (take 64 (drop from ws)) i 0
-    ∙ ap (λ (m : ℕ). record { 0 = m }) (getD-take 64 (drop from ws) i 0 l ∙ getD-drop from ws i 0))
+    (List·getD-map (λ (m : ℕ). record { 0 = m }) (take mostPartitions (drop from ws)) i 0
+    ∙ ap (λ (m : ℕ). record { 0 = m }) (getD-take mostPartitions (drop from ws) i 0 l ∙ getD-drop from ws i 0))
 
--- all of 64 words
-pub minutes-whole : (ws : List ℕ) → length ws ≡ 64 → minutes (take 64 (drop 0 ws)) ≡ minutes ws
-minutes-whole ws e = ap minutes (take-all 64 ws (omega arith))
+-- all words of a plan's last minutes
+pub minutes-whole : (ws : List ℕ) → length ws ≡ mostPartitions → minutes (take mostPartitions (drop 0 ws)) ≡ minutes ws
+minutes-whole ws e = ap minutes (take-all mostPartitions ws (omega arith))
 
 -- ---- a plan's words
 
@@ -96,21 +97,21 @@ abbrev pub withLasts : List ℕ → List Chronon → Partitioning
 withLasts ws lasts = record { count = getD ws 0 0; lasts = lasts; tuples = getD ws 1 0; rows = getD ws 2 0 }
 
 -- it is what the words say, where the last minutes are theirs
-pub plan-said : (ws : List ℕ) (lasts : List Chronon) → lasts ≡ minutes (take 64 (drop 3 ws))
+pub plan-said : (ws : List ℕ) (lasts : List Chronon) → lasts ≡ minutes (take mostPartitions (drop planHead ws))
     → withLasts ws lasts ≡ planIn ws
 unfolding planIn
 plan-said ws lasts e = ap (withLasts ws) e
 
 -- and what they say once its last minutes are put into them
-pub plan-put : (ws : List ℕ) (lasts : List Chronon) → length ws ≡ planWords → length lasts ≡ 64
-    → planIn (take 3 ws ++ numbers lasts) ≡ withLasts ws lasts
+pub plan-put : (ws : List ℕ) (lasts : List Chronon) → length ws ≡ planWords → length lasts ≡ mostPartitions
+    → planIn (take planHead ws ++ numbers lasts) ≡ withLasts ws lasts
 unfolding planIn
 plan-put [] lasts e l = absurd (omega arith)
 plan-put (a ∷ []) lasts e l = absurd (omega arith)
 plan-put (a ∷ (b ∷ [])) lasts e l = absurd (omega arith)
 plan-put (a ∷ (b ∷ (c ∷ ws))) lasts e l =
-    let put : minutes (take 64 (numbers lasts)) ≡ lasts =
-    ap minutes (take-all 64 (numbers lasts) (rw length-map (omega arith))) ∙ minutes-of-numbers lasts in
+    let put : minutes (take mostPartitions (numbers lasts)) ≡ lasts =
+    ap minutes (take-all mostPartitions (numbers lasts) (rw length-map (omega arith))) ∙ minutes-of-numbers lasts in
     ap (λ (r : List Chronon). withLasts (a ∷ (b ∷ (c ∷ ws))) r) put
 
 -- the words of a plan, and that nothing of them is lost
@@ -124,7 +125,7 @@ plan-words (a ∷ []) e = absurd (omega arith)
 plan-words (a ∷ (b ∷ [])) e = absurd (omega arith)
 plan-words (a ∷ (b ∷ (c ∷ ws))) e =
     ap (λ (r : List ℕ). a ∷ (b ∷ (c ∷ r)))
-    (numbers-of-minutes (take 64 ws) ∙ take-all 64 ws (omega arith))
+    (numbers-of-minutes (take mostPartitions ws) ∙ take-all mostPartitions ws (omega arith))
 
 pub plan-words-whole : (ws vs : List ℕ) → length ws ≡ planWords → length vs ≡ planWords → planIn ws ≡ planIn vs
     → ws ≡ vs
@@ -133,28 +134,28 @@ plan-words-whole ws vs e f h = sym (plan-words ws e) ∙ ap wordsIn h ∙ plan-w
 -- ---- the plan that a repartition returns: with its last minutes put into them, the words say it
 
 module _ (ws : List ℕ) (e : length ws ≡ planWords) where
-  put-back : (lasts : List Chronon) (q : Partitioning) → length lasts ≡ 64 → q ≡ withLasts ws lasts
-      → planIn (take 3 ws ++ numbers (q .lasts)) ≡ q
+  put-back : (lasts : List Chronon) (q : Partitioning) → length lasts ≡ mostPartitions → q ≡ withLasts ws lasts
+      → planIn (take planHead ws ++ numbers (q .lasts)) ≡ q
   put-back lasts q l h =
-      ap (λ (r : Partitioning). planIn (take 3 ws ++ numbers (r .lasts))) h ∙ plan-put ws lasts e l ∙ sym h
+      ap (λ (r : Partitioning). planIn (take planHead ws ++ numbers (r .lasts))) h ∙ plan-put ws lasts e l ∙ sym h
 
-  put-kept : (q : Partitioning) → q ≡ planIn ws → planIn (take 3 ws ++ numbers (q .lasts)) ≡ q
+  put-kept : (q : Partitioning) → q ≡ planIn ws → planIn (take planHead ws ++ numbers (q .lasts)) ≡ q
   put-kept q h =
-      let lasts = minutes (take 64 (drop 3 ws)) in
-      put-back lasts q (length-minutes-at 3 ws (omega arith)) (h ∙ sym (plan-said ws lasts refl))
+      let lasts = minutes (take mostPartitions (drop planHead ws)) in
+      put-back lasts q (length-minutes-at planHead ws (omega arith)) (h ∙ sym (plan-said ws lasts refl))
 
-  put-new : (new : List Chronon) (q : Partitioning) → length new ≡ 64 → q ≡ withCuts (planIn ws) new
-      → planIn (take 3 ws ++ numbers (q .lasts)) ≡ q
+  put-new : (new : List Chronon) (q : Partitioning) → length new ≡ mostPartitions → q ≡ withCuts (planIn ws) new
+      → planIn (take planHead ws ++ numbers (q .lasts)) ≡ q
   unfolding withCuts planIn
   put-new new q l h =
       let n = getD ws 0 0 in
-      let old = minutes (take 64 (drop 3 ws)) in
-      let long = length-minutes-at 3 ws (omega arith) in
+      let old = minutes (take mostPartitions (drop planHead ws)) in
+      let long = length-minutes-at planHead ws (omega arith) in
       put-back (take n new ++ drop n old) q
       (simp (length-append, length-take, length-drop) (omega arith)) h
 
-  pub plan-put-back : (new : List Chronon) (s s′ : Stores) (a : Answer) (q : Partitioning) → length new ≡ 64
-      → Repartitioned (planIn ws) new s s′ a q → planIn (take 3 ws ++ numbers (q .lasts)) ≡ q
+  pub plan-put-back : (new : List Chronon) (s s′ : Stores) (a : Answer) (q : Partitioning) → length new ≡ mostPartitions
+      → Repartitioned (planIn ws) new s s′ a q → planIn (take planHead ws ++ numbers (q .lasts)) ≡ q
   plan-put-back new s s′ a q l r =
       ⊎-elim (λ t. put-new new q l (r .accepted (eqb-true (a .number) 0 t)))
       (λ t. put-kept q (r .refused (eqb-false (a .number) 0 t)))

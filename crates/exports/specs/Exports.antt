@@ -1,24 +1,35 @@
--- The calls on words, for hosts: how a plan and an answer are laid out, and what a call on them leaves. Each promise cites the
--- record of the call itself.
+-- The calls on words, for hosts: how a plan and an answer are laid out, and what a call on them leaves. Each promise
+-- cites the record of the call itself.
 use mathlib.Core.Bool.{Bool, true, false, _&&_}
 use mathlib.Core.List.{List, [], _∷_, map}
 use mathlib.Core.Path.{_≡_}
-use Prim.Native.Nat.{ℕ}
+use Prim.Native.Nat.{ℕ, _+_}
 use lib.Dec.{eqb}
 use lib.ListN.{length, getD, take, drop}
 use Rattle.lists.specs.Choice.{pick}
-use Rattle.interval.specs.Time.{span}
 use Rattle.interval.specs.declared.time.Chronon.{Chronon}
 use Rattle.interval.specs.declared.tuple.Tuple.{Tuple}
+use Rattle.plan.specs.Plan.{mostPartitions}
 use Rattle.plan.specs.declared.Partitioning.{Partitioning}
 use Rattle.rows.specs.declared.Side.{Side}
 use Rattle.rows.specs.declared.Side.the-variants.{Outer, Inner}
+use Rattle.checks.specs.Stores.{Stores, stores}
 use Rattle.checks.specs.declared.Answer.{Answer}
+use Rattle.join.specs.Opening.{Opened}
+use Rattle.join.specs.Changes.{Inserted, Deleted}
+use Rattle.join.specs.Sweeps.{Swept}
+use Rattle.join.specs.Repartitioning.{Repartitioned}
+use Rattle.exports.specs.declared.Kind.{Kind}
+use Rattle.exports.specs.declared.Kind.the-variants.{Insert, Delete}
 
--- the words of a plan and of an answer
+-- the words of a plan, 67: before its last minutes, and with them
+abbrev pub planHead : ℕ
+planHead = 3
+
 abbrev pub planWords : ℕ
-planWords = 67
+planWords = planHead + mostPartitions
 
+-- the words of an answer
 abbrev pub answerWords : ℕ
 answerWords = 3
 
@@ -30,7 +41,7 @@ minutes ws = map (λ (m : ℕ). record { 0 = m }) ws
 unfoldable pub planIn : List ℕ → Partitioning
 planIn ws = record {
   count = getD ws 0 0;
-  lasts = minutes (take 64 (drop 3 ws));
+  lasts = minutes (take mostPartitions (drop planHead ws));
   tuples = getD ws 1 0;
   rows = getD ws 2 0;
 }
@@ -43,8 +54,10 @@ wordsOf a = a .number ∷ (a .changed ∷ (a .examined ∷ []))
 abbrev pub sideOf : ℕ → Side
 sideOf n = pick (eqb n 1) Outer Inner
 
-abbrev pub tupleFrom : ℕ → ℕ → ℕ → ℕ → Tuple
-tupleFrom label item first last = record { label = label; item = item; valid = span first last }
+-- what the join's call of a change promises
+abbrev pub Changed : Kind → Partitioning → Side → Tuple → Stores → Stores → Answer → Type 0
+Changed Insert p side t s s′ a = Inserted p side t s s′ a
+Changed Delete p side t s s′ a = Deleted p side t s s′ a
 
 -- the lengths of the plan and of the answer are right
 abbrev pub lengthsAre : List ℕ → List ℕ → Bool
@@ -52,6 +65,33 @@ lengthsAre ws buffer = eqb (length ws) planWords && eqb (length buffer) answerWo
 
 -- a call that was lent an answer buffer, left buffer′, and returned n, where `right` says that lengths are right.
 -- Kept: every other buffer is as it was; Done a: what the call promises of its answer a
-pub record Exported (right : Bool) (buffer buffer′ : List ℕ) (n : ℕ) (Kept : Type 0) (Done : Answer → Type 0) : Type 0 where
+pub record Exported (right : Bool) (buffer buffer′ : List ℕ) (n : ℕ) (Kept : Type 0) (Done : Answer → Type 0)
+    : Type 0 where
   pub refused : right ≡ false → (n ≡ 4) × (buffer′ ≡ buffer) × Kept
   pub called : right ≡ true → (a : Answer) × (buffer′ ≡ wordsOf a) × (n ≡ a .number) × Done a
+
+-- ---- the promise of each call: of the words that it was lent, in the order of its parameters, of those that it may
+-- write as it left them (′), and of the number n that it returned
+
+abbrev pub OpenExported : (plan outer inner rows answer outer′ inner′ rows′ answer′ : List ℕ) → ℕ → Type 0
+OpenExported plan outer inner rows answer outer′ inner′ rows′ answer′ n =
+    Exported (lengthsAre plan answer) answer answer′ n (stores outer′ inner′ rows′ ≡ stores outer inner rows)
+    (λ a. Opened (planIn plan) (stores outer inner rows) (stores outer′ inner′ rows′) a)
+
+abbrev pub ChangeExported : Kind → (plan : List ℕ) → Side → Tuple
+    → (outer inner rows answer outer′ inner′ rows′ answer′ : List ℕ) → ℕ → Type 0
+ChangeExported kind plan side t outer inner rows answer outer′ inner′ rows′ answer′ n =
+    Exported (lengthsAre plan answer) answer answer′ n (stores outer′ inner′ rows′ ≡ stores outer inner rows)
+    (λ a. Changed kind (planIn plan) side t (stores outer inner rows) (stores outer′ inner′ rows′) a)
+
+-- c and d: the two caches
+abbrev pub SweepExported : (plan outer inner rows c d answer rows′ c′ d′ answer′ : List ℕ) → ℕ → Type 0
+SweepExported plan outer inner rows c d answer rows′ c′ d′ answer′ n =
+    Exported (lengthsAre plan answer) answer answer′ n ((rows′ ≡ rows) × (c′ ≡ c) × (d′ ≡ d))
+    (λ a. Swept (planIn plan) (stores outer inner rows) c d (stores outer inner rows′) c′ d′ a)
+
+abbrev pub CutsExported : (plan cuts outer inner rows answer plan′ answer′ : List ℕ) → ℕ → Type 0
+CutsExported plan cuts outer inner rows answer plan′ answer′ n =
+    Exported (lengthsAre plan answer && eqb (length cuts) mostPartitions) answer answer′ n (plan′ ≡ plan)
+    (λ a.
+    Repartitioned (planIn plan) (minutes cuts) (stores outer inner rows) (stores outer inner rows) a (planIn plan′))

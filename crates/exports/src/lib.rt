@@ -2,48 +2,60 @@
 //
 // A plan is 67 words: the lane count, the tuple capacity, the row capacity, then 64 places for last minutes. A tuple is
 // handed over as four words, its side as one: 1 for drawings, anything else for spots. An answer is three words: the
-// refusal number and the two counts; the number is also returned. A plan, an answer or new last minutes of another length
-// are refused with 4 before all else, and nothing is written.
+// refusal number and the two counts; the number is also returned. A plan, an answer or new last minutes of another
+// length are refused with 4 before all else, and nothing is written.
 // Nothing has to be checked before calling; each slice is an address and a length in words.
-ghost use mathlib.Core.Bool.{_&&_};
-ghost use mathlib.Core.List.{_++_, map};
+ghost use mathlib.Core.List.{_++_};
 ghost use mathlib.Core.Path.{_≡_};
-ghost use lib.Dec.{eqb};
 ghost use Prim.Native.Nat.{_+_, _≤_};
 ghost use lib.ListN.{length, take, drop};
+ghost use Rattle.interval.specs.Tuple.{tuple};
+ghost use Rattle.plan.specs.Plan.{mostPartitions, numbers};
 ghost use Rattle.checks.specs.Stores.{stores};
-ghost use Rattle.join.specs.Opening.{Opened};
-ghost use Rattle.join.specs.Changes.{Inserted, Deleted};
-ghost use Rattle.join.specs.Sweeps.{Swept};
-ghost use Rattle.join.specs.Repartitioning.{Repartitioned};
-ghost use Rattle.exports.specs.Exports.{minutes, planIn, wordsOf, sideOf, tupleFrom, lengthsAre, Exported};
+ghost use Rattle.exports.specs.Exports.{planHead, planWords, answerWords, minutes, planIn, wordsOf, sideOf};
+ghost use Rattle.exports.specs.Exports.{Changed, OpenExported, ChangeExported, SweepExported, CutsExported};
+ghost use Rattle.exports.specs.declared.Kind.the-variants.{Insert, Delete};
 use interval::time::Chronon;
 use interval::time::Interval;
 use interval::tuple::Tuple;
 use join::Answer;
+use plan::PLACES;
 use plan::Partitioning;
 use rows::Side;
 
-// 64 last minutes, from a place of a run of words on.
-fn lasts_in(words: &[u64], from: usize) -> [Chronon; 64]
-    requires { ⌜ from + 64 ≤ length (now words) ⌝ }
-    ensures { λ r. ⌜ r ≡ minutes (take 64 (drop from (now (words .entry)))) ⌝ }
+// The words of a plan before its last minutes, all of them, and the words of an answer.
+const PLAN_HEAD: usize = 3;
+
+const PLAN_WORDS: usize = PLAN_HEAD + PLACES;
+
+const ANSWER_WORDS: usize = 3;
+
+// What a change does with its tuple: puts it in, or takes it out.
+enum Kind {
+    Insert,
+    Delete,
+}
+
+// A plan's last minutes, from a place of a run of words on.
+fn lasts_in(words: &[u64], from: usize) -> [Chronon; PLACES]
+    requires { ⌜ from + mostPartitions ≤ length (now words) ⌝ }
+    ensures { λ r. ⌜ r ≡ minutes (take mostPartitions (drop from (now (words .entry)))) ⌝ }
 {
-    let mut lasts = [Chronon(0); 64];
+    let mut lasts = [Chronon(0); PLACES];
     let mut i: usize = 0;
-    while i < 64 {
+    while i < PLACES {
         lasts[i] = Chronon(words[from + i]);
         i += 1;
     }
     lasts
 }
 
-// The plan that 67 words say.
+// The plan that its words say.
 fn plan_in(words: &[u64]) -> Partitioning
-    requires { ⌜ length (now words) ≡ 67 ⌝ }
+    requires { ⌜ length (now words) ≡ planWords ⌝ }
     ensures { λ r. ⌜ r ≡ planIn (now (words .entry)) ⌝ }
 {
-    let lasts = lasts_in(words, 3);
+    let lasts = lasts_in(words, PLAN_HEAD);
     Partitioning {
         count: words[0],
         lasts,
@@ -62,7 +74,7 @@ fn side_of(side: u64) -> Side
 }
 
 fn tuple_of(label: u64, item: u64, first: u64, last: u64) -> Tuple
-    ensures { λ r. ⌜ r ≡ tupleFrom label item first last ⌝ }
+    ensures { λ r. ⌜ r ≡ tuple label item first last ⌝ }
 {
     Tuple {
         label,
@@ -76,7 +88,7 @@ fn tuple_of(label: u64, item: u64, first: u64, last: u64) -> Tuple
 
 // Writes an answer's three words; answers its number.
 fn tell(a: Answer, answer: &mut [u64]) -> u64
-    requires { ⌜ length (now answer) ≡ 3 ⌝ }
+    requires { ⌜ length (now answer) ≡ answerWords ⌝ }
     ensures { λ r. ⌜ (now (answer .exit) ≡ wordsOf a) × (r ≡ a .number) ⌝ }
 {
     answer[0] = a.number;
@@ -94,15 +106,62 @@ pub extern "C" fn ruthgarwy_open(
     rows: &mut [u64],
     answer: &mut [u64],
 ) -> u64
-    ensures { λ r. ⌜ Exported (lengthsAre (now (plan .entry)) (now (answer .entry))) (now (answer .entry)) (now (answer .exit)) r (stores (now (outer .exit)) (now (inner .exit)) (now (rows .exit)) ≡ stores (now (outer .entry)) (now (inner .entry)) (now (rows .entry))) (λ a. Opened (planIn (now (plan .entry))) (stores (now (outer .entry)) (now (inner .entry)) (now (rows .entry))) (stores (now (outer .exit)) (now (inner .exit)) (now (rows .exit))) a) ⌝ }
+    ensures { λ r. ⌜ OpenExported (now (plan .entry))
+        (now (outer .entry)) (now (inner .entry)) (now (rows .entry)) (now (answer .entry))
+        (now (outer .exit)) (now (inner .exit)) (now (rows .exit)) (now (answer .exit)) r ⌝ }
 {
-    if plan.len() != 67 {
+    if plan.len() != PLAN_WORDS {
         return 4;
     }
-    if answer.len() != 3 {
+    if answer.len() != ANSWER_WORDS {
         return 4;
     }
     let a = join::open(plan_in(plan), outer, inner, rows);
+    tell(a, answer)
+}
+
+// The join's call of a change.
+fn call(
+    kind: Kind,
+    p: Partitioning,
+    side: Side,
+    t: Tuple,
+    outer: &mut [u64],
+    inner: &mut [u64],
+    rows: &mut [u64],
+) -> Answer
+    ensures { λ r. ⌜ Changed kind p side t
+        (stores (now (outer .entry)) (now (inner .entry)) (now (rows .entry)))
+        (stores (now (outer .exit)) (now (inner .exit)) (now (rows .exit))) r ⌝ }
+{
+    match kind {
+        Kind::Insert => join::insert(p, side, t, outer, inner, rows),
+        Kind::Delete => join::delete(p, side, t, outer, inner, rows),
+    }
+}
+
+// A change of either kind.
+fn change(
+    kind: Kind,
+    plan: &[u64],
+    side: Side,
+    t: Tuple,
+    outer: &mut [u64],
+    inner: &mut [u64],
+    rows: &mut [u64],
+    answer: &mut [u64],
+) -> u64
+    ensures { λ r. ⌜ ChangeExported kind (now (plan .entry)) side t
+        (now (outer .entry)) (now (inner .entry)) (now (rows .entry)) (now (answer .entry))
+        (now (outer .exit)) (now (inner .exit)) (now (rows .exit)) (now (answer .exit)) r ⌝ }
+{
+    if plan.len() != PLAN_WORDS {
+        return 4;
+    }
+    if answer.len() != ANSWER_WORDS {
+        return 4;
+    }
+    let a = call(kind, plan_in(plan), side, t, outer, inner, rows);
     tell(a, answer)
 }
 
@@ -120,17 +179,21 @@ pub extern "C" fn ruthgarwy_insert(
     rows: &mut [u64],
     answer: &mut [u64],
 ) -> u64
-    ensures { λ r. ⌜ Exported (lengthsAre (now (plan .entry)) (now (answer .entry))) (now (answer .entry)) (now (answer .exit)) r (stores (now (outer .exit)) (now (inner .exit)) (now (rows .exit)) ≡ stores (now (outer .entry)) (now (inner .entry)) (now (rows .entry))) (λ a. Inserted (planIn (now (plan .entry))) (sideOf side) (tupleFrom label item first last) (stores (now (outer .entry)) (now (inner .entry)) (now (rows .entry))) (stores (now (outer .exit)) (now (inner .exit)) (now (rows .exit))) a) ⌝ }
+    ensures { λ r. ⌜ ChangeExported Insert (now (plan .entry)) (sideOf side) (tuple label item first last)
+        (now (outer .entry)) (now (inner .entry)) (now (rows .entry)) (now (answer .entry))
+        (now (outer .exit)) (now (inner .exit)) (now (rows .exit)) (now (answer .exit)) r ⌝ }
 {
-    if plan.len() != 67 {
-        return 4;
-    }
-    if answer.len() != 3 {
-        return 4;
-    }
     let t = tuple_of(label, item, first, last);
-    let a = join::insert(plan_in(plan), side_of(side), t, outer, inner, rows);
-    tell(a, answer)
+    change(
+        Kind::Insert,
+        plan,
+        side_of(side),
+        t,
+        outer,
+        inner,
+        rows,
+        answer,
+    )
 }
 
 // Withdraw a tuple on a side.
@@ -147,17 +210,21 @@ pub extern "C" fn ruthgarwy_delete(
     rows: &mut [u64],
     answer: &mut [u64],
 ) -> u64
-    ensures { λ r. ⌜ Exported (lengthsAre (now (plan .entry)) (now (answer .entry))) (now (answer .entry)) (now (answer .exit)) r (stores (now (outer .exit)) (now (inner .exit)) (now (rows .exit)) ≡ stores (now (outer .entry)) (now (inner .entry)) (now (rows .entry))) (λ a. Deleted (planIn (now (plan .entry))) (sideOf side) (tupleFrom label item first last) (stores (now (outer .entry)) (now (inner .entry)) (now (rows .entry))) (stores (now (outer .exit)) (now (inner .exit)) (now (rows .exit))) a) ⌝ }
+    ensures { λ r. ⌜ ChangeExported Delete (now (plan .entry)) (sideOf side) (tuple label item first last)
+        (now (outer .entry)) (now (inner .entry)) (now (rows .entry)) (now (answer .entry))
+        (now (outer .exit)) (now (inner .exit)) (now (rows .exit)) (now (answer .exit)) r ⌝ }
 {
-    if plan.len() != 67 {
-        return 4;
-    }
-    if answer.len() != 3 {
-        return 4;
-    }
     let t = tuple_of(label, item, first, last);
-    let a = join::delete(plan_in(plan), side_of(side), t, outer, inner, rows);
-    tell(a, answer)
+    change(
+        Kind::Delete,
+        plan,
+        side_of(side),
+        t,
+        outer,
+        inner,
+        rows,
+        answer,
+    )
 }
 
 // Sweep, with two lent caches.
@@ -171,12 +238,15 @@ pub extern "C" fn ruthgarwy_sweep(
     inner_cache: &mut [u64],
     answer: &mut [u64],
 ) -> u64
-    ensures { λ r. ⌜ Exported (lengthsAre (now (plan .entry)) (now (answer .entry))) (now (answer .entry)) (now (answer .exit)) r ((now (rows .exit) ≡ now (rows .entry)) × (now («outer_cache» .exit) ≡ now («outer_cache» .entry)) × (now («inner_cache» .exit) ≡ now («inner_cache» .entry))) (λ a. Swept (planIn (now (plan .entry))) (stores (now (outer .entry)) (now (inner .entry)) (now (rows .entry))) (now («outer_cache» .entry)) (now («inner_cache» .entry)) (stores (now (outer .entry)) (now (inner .entry)) (now (rows .exit))) (now («outer_cache» .exit)) (now («inner_cache» .exit)) a) ⌝ }
+    ensures { λ r. ⌜ SweepExported (now (plan .entry))
+        (now (outer .entry)) (now (inner .entry)) (now (rows .entry))
+        (now («outer_cache» .entry)) (now («inner_cache» .entry)) (now (answer .entry))
+        (now (rows .exit)) (now («outer_cache» .exit)) (now («inner_cache» .exit)) (now (answer .exit)) r ⌝ }
 {
-    if plan.len() != 67 {
+    if plan.len() != PLAN_WORDS {
         return 4;
     }
-    if answer.len() != 3 {
+    if answer.len() != ANSWER_WORDS {
         return 4;
     }
     let a = join::sweep(plan_in(plan), outer, inner, rows, outer_cache, inner_cache);
@@ -193,15 +263,17 @@ pub extern "C" fn ruthgarwy_repartition(
     rows: &[u64],
     answer: &mut [u64],
 ) -> u64
-    ensures { λ r. ⌜ Exported (lengthsAre (now (plan .entry)) (now (answer .entry)) && eqb (length (now (cuts .entry))) 64) (now (answer .entry)) (now (answer .exit)) r (now (plan .exit) ≡ now (plan .entry)) (λ a. Repartitioned (planIn (now (plan .entry))) (minutes (now (cuts .entry))) (stores (now (outer .entry)) (now (inner .entry)) (now (rows .entry))) (stores (now (outer .entry)) (now (inner .entry)) (now (rows .entry))) a (planIn (now (plan .exit)))) ⌝ }
+    ensures { λ r. ⌜ CutsExported (now (plan .entry)) (now (cuts .entry))
+        (now (outer .entry)) (now (inner .entry)) (now (rows .entry)) (now (answer .entry))
+        (now (plan .exit)) (now (answer .exit)) r ⌝ }
 {
-    if plan.len() != 67 {
+    if plan.len() != PLAN_WORDS {
         return 4;
     }
-    if answer.len() != 3 {
+    if answer.len() != ANSWER_WORDS {
         return 4;
     }
-    if cuts.len() != 64 {
+    if cuts.len() != PLACES {
         return 4;
     }
     let new = join::repartition(plan_in(plan), lasts_in(cuts, 0), outer, inner, rows);
@@ -211,15 +283,15 @@ pub extern "C" fn ruthgarwy_repartition(
     tell(new.answer, answer)
 }
 
-// Puts 64 last minutes into the words of a plan.
-fn put_lasts(lasts: [Chronon; 64], plan: &mut [u64])
-    requires { ⌜ length (now plan) ≡ 67 ⌝ }
-    ensures { λ _. ⌜ now (plan .exit) ≡ take 3 (now (plan .entry)) ++ map (λ m. m .0) lasts ⌝ }
+// Puts last minutes into the words of a plan.
+fn put_lasts(lasts: [Chronon; PLACES], plan: &mut [u64])
+    requires { ⌜ length (now plan) ≡ planWords ⌝ }
+    ensures { λ _. ⌜ now (plan .exit) ≡ take planHead (now (plan .entry)) ++ numbers lasts ⌝ }
 {
     let mut i: usize = 0;
-    while i < 64 {
+    while i < PLACES {
         let last = lasts[i];
-        plan[3 + i] = last.0;
+        plan[PLAN_HEAD + i] = last.0;
         i += 1;
     }
 }

@@ -72,7 +72,8 @@ pub machine-next : (p : Partitioning) (t : Told) (ts : List Told) (m n : Machine
     → told t m ≡ some n → machineAfter p (t ∷ ts) ≡ some n
 machine-next p t ts m n e h = ap (next t) e ∙ h
 
-run-kept : {p₀ : Partitioning} {s₀ : Stores} {ts : List Told} {p : Partitioning} {s : Stores}
+-- what every list of calls keeps
+pub run-kept : {p₀ : Partitioning} {s₀ : Stores} {ts : List Told} {p : Partitioning} {s : Stores}
     → Kept (first p₀) p₀ s₀ → (run : Run p₀ s₀ ts p s)
     → (m : Machine) × (machineAfter p₀ ts ≡ some m) × Kept m p s × AllOwed run
 run-kept {p₀ = p₀} k fresh = (first p₀, refl, k, tt)

@@ -2,6 +2,7 @@
 pub mod Held
 pub mod Kept
 pub mod Changes
+pub mod Lacking
 pub mod Inserts
 pub mod Deletes
 pub mod Sweeps

@@ -1,6 +1,6 @@
 -- Laws of specs/Line, along the way that a line is read: where the reader answers, its answer is the line's.
--- In order: a lane's last minute; the fields of a change after its third comma, then after its first; the first field
--- of a line is one of the words, and each word's form; the line.
+-- In order: a lane's last minute; the fields of a change after its third comma, after its second, after its first; the
+-- first field of a line is one of the words, and each word's form; the line.
 -- Assumes nothing.
 use mathlib.Core.Bool.{true, false, and-false}
 use mathlib.Core.List.{List, [], _∷_}
@@ -11,10 +11,11 @@ use lib.ListN.{length}
 use borrow.Author.Tests.{le-leb, lt-leb}
 use Rattle.lists.specs.Members.{any, placeOf}
 use Rattle.lists.proofs.Choice.{pick-true, pick-false}
-use Rattle.interval.specs.Time.{span}
 use Rattle.interval.specs.Label.{isLabel, labelNumber}
+use Rattle.interval.specs.Tuple.{tuple}
 use Rattle.lines.specs.Fields.{isComma, fieldsOf, sameBytes, isNumber, valueOf}
-use Rattle.lines.specs.Line.{laneBytes, bytesOf, laneOf, changeOf, changeForm, spanForm, worded, formOf, lineOf}
+use Rattle.lines.specs.Line.{lineLength, laneBytes, bytesOf, laneOf, changeOf, changeForm, numbersForm, spanForm}
+use Rattle.lines.specs.Line.{worded, formOf, lineOf}
 use Rattle.lines.specs.declared.Word.{Word}
 use Rattle.lines.specs.declared.Word.the-variants.{DrawIn, DrawOut, SpotIn, SpotOut}
 use Rattle.lines.specs.declared.Line.{Line}
@@ -68,13 +69,49 @@ module _ (w : Word) (label item : ℕ) (bs : List ℕ) (k : ℕ) (e : k ≡ plac
   pub span-value : (first last : ℕ) → k < length bs
       → (isNumber (cutBefore k bs) ≡ true) × (first ≡ valueOf (cutBefore k bs))
       → (isNumber (cutAfter k bs) ≡ true) × (last ≡ valueOf (cutAfter k bs))
-      → Change w (record { label = label; item = item; valid = span first last }) ≡ spanForm w label item (fieldsOf bs)
+      → Change w (tuple label item first last) ≡ spanForm w label item (fieldsOf bs)
   unfolding spanForm
   span-value first last h f g = sym (whole h ∙ rw (f .0, g .0, f .1, g .1))
 
--- ---- after a change's first comma
+-- ---- after a change's second comma, the first comma of the rest at place k
 
--- by the label and the number
+-- by the number
+item-no : (w : Word) (label : ℕ) (n : List ℕ) (fs : List (List ℕ)) → isNumber n ≡ false
+    → numbersForm w label (n ∷ fs) ≡ Malformed
+unfolding numbersForm
+item-no w label n [] e = refl
+item-no w label n (a ∷ []) e = refl
+item-no w label n (a ∷ (b ∷ [])) e = rw e
+item-no w label n (a ∷ (b ∷ (c ∷ more))) e = refl
+
+item-read : (w : Word) (label : ℕ) (n : List ℕ) (fs : List (List ℕ)) → isNumber n ≡ true
+    → numbersForm w label (n ∷ fs) ≡ spanForm w label (valueOf n) fs
+unfolding numbersForm spanForm
+item-read w label n [] e = refl
+item-read w label n (a ∷ []) e = refl
+item-read w label n (a ∷ (b ∷ [])) e = rw e
+item-read w label n (a ∷ (b ∷ (c ∷ more))) e = refl
+
+module _ (w : Word) (label : ℕ) (bs : List ℕ) (k : ℕ) (e : k ≡ placeOf isComma bs) where
+  pub numbers-none : length bs ≤ k → Malformed ≡ numbersForm w label (fieldsOf bs)
+  unfolding numbersForm
+  numbers-none h = rw (fields-none bs k e h)
+
+  pub numbers-item : k < length bs → isNumber (cutBefore k bs) ≡ false → Malformed ≡ numbersForm w label (fieldsOf bs)
+  numbers-item h f = sym (ap (numbersForm w label) (fields-cut bs k e h) ∙ item-no w label (cutBefore k bs) _ f)
+
+  -- a number: the rest answers
+  pub numbers-span : (r : Line) (item : ℕ) → k < length bs
+      → (isNumber (cutBefore k bs) ≡ true) × (item ≡ valueOf (cutBefore k bs))
+      → r ≡ spanForm w label item (fieldsOf (cutAfter k bs)) → r ≡ numbersForm w label (fieldsOf bs)
+  numbers-span r item h n a =
+      a
+      ∙ ap (λ (x : ℕ). spanForm w label x (fieldsOf (cutAfter k bs))) (n .1)
+      ∙ sym (ap (numbersForm w label) (fields-cut bs k e h) ∙ item-read w label (cutBefore k bs) _ (n .0))
+
+-- ---- after a change's first comma, the first comma of the rest at place k
+
+-- by the label
 label-no : (w : Word) (l : List ℕ) (fs : List (List ℕ)) → isLabel l ≡ false → changeForm w (l ∷ fs) ≡ Malformed
 unfolding changeForm changeOf
 label-no w l [] e = refl
@@ -83,20 +120,14 @@ label-no w l (n ∷ (a ∷ [])) e = refl
 label-no w l (n ∷ (a ∷ (b ∷ []))) e = rw e
 label-no w l (n ∷ (a ∷ (b ∷ (c ∷ more)))) e = refl
 
-item-no : (w : Word) (l n : List ℕ) (fs : List (List ℕ)) → isNumber n ≡ false → changeForm w (l ∷ (n ∷ fs)) ≡ Malformed
-unfolding changeForm changeOf
-item-no w l n [] e = refl
-item-no w l n (a ∷ []) e = refl
-item-no w l n (a ∷ (b ∷ [])) e = rw (e, and-false)
-item-no w l n (a ∷ (b ∷ (c ∷ more))) e = refl
-
-both-read : (w : Word) (l n : List ℕ) (fs : List (List ℕ)) → isLabel l ≡ true → isNumber n ≡ true
-    → changeForm w (l ∷ (n ∷ fs)) ≡ spanForm w (labelNumber l) (valueOf n) fs
-unfolding changeForm changeOf spanForm
-both-read w l n [] e f = refl
-both-read w l n (a ∷ []) e f = refl
-both-read w l n (a ∷ (b ∷ [])) e f = rw (e, f)
-both-read w l n (a ∷ (b ∷ (c ∷ more))) e f = refl
+label-read : (w : Word) (l : List ℕ) (fs : List (List ℕ)) → isLabel l ≡ true
+    → changeForm w (l ∷ fs) ≡ numbersForm w (labelNumber l) fs
+unfolding changeForm changeOf numbersForm
+label-read w l [] e = refl
+label-read w l (n ∷ []) e = refl
+label-read w l (n ∷ (a ∷ [])) e = refl
+label-read w l (n ∷ (a ∷ (b ∷ []))) e = rw e
+label-read w l (n ∷ (a ∷ (b ∷ (c ∷ more)))) e = refl
 
 module _ (w : Word) (bs : List ℕ) (k : ℕ) (e : k ≡ placeOf isComma bs) where
   pub change-none : length bs ≤ k → Malformed ≡ changeForm w (fieldsOf bs)
@@ -106,34 +137,14 @@ module _ (w : Word) (bs : List ℕ) (k : ℕ) (e : k ≡ placeOf isComma bs) whe
   pub change-label : k < length bs → isLabel (cutBefore k bs) ≡ false → Malformed ≡ changeForm w (fieldsOf bs)
   change-label h f = sym (ap (changeForm w) (fields-cut bs k e h) ∙ label-no w (cutBefore k bs) _ f)
 
-  -- the second comma, at place m after the first
-  module _ (m : ℕ) (d : m ≡ placeOf isComma (cutAfter k bs)) (h : k < length bs) where
-    pub change-short : length (cutAfter k bs) ≤ m → Malformed ≡ changeForm w (fieldsOf bs)
-    unfolding changeForm
-    change-short g = sym (ap (changeForm w) (fields-cut bs k e h) ∙ rw (fields-none (cutAfter k bs) m d g))
-
-    split : m < length (cutAfter k bs)
-        → changeForm w (fieldsOf bs)
-        ≡ changeForm w (cutBefore k bs ∷ (cutBefore m (cutAfter k bs) ∷ fieldsOf (cutAfter m (cutAfter k bs))))
-    split g =
-        ap (changeForm w) (fields-cut bs k e h)
-        ∙ ap (λ (fs : List (List ℕ)). changeForm w (cutBefore k bs ∷ fs)) (fields-cut (cutAfter k bs) m d g)
-
-    pub change-item : m < length (cutAfter k bs) → isNumber (cutBefore m (cutAfter k bs)) ≡ false
-        → Malformed ≡ changeForm w (fieldsOf bs)
-    change-item g f = sym (split g ∙ item-no w (cutBefore k bs) (cutBefore m (cutAfter k bs)) _ f)
-
-    -- a label and a number: the rest answers
-    pub change-span : (r : Line) (label item : ℕ) → m < length (cutAfter k bs)
-        → (isLabel (cutBefore k bs) ≡ true) × (label ≡ labelNumber (cutBefore k bs))
-        → (isNumber (cutBefore m (cutAfter k bs)) ≡ true) × (item ≡ valueOf (cutBefore m (cutAfter k bs)))
-        → r ≡ spanForm w label item (fieldsOf (cutAfter m (cutAfter k bs)))
-        → r ≡ changeForm w (fieldsOf bs)
-    change-span r label item g f n a =
-        a
-        ∙ ap (λ (x : ℕ). spanForm w x item (fieldsOf (cutAfter m (cutAfter k bs)))) (f .1)
-        ∙ ap (λ (x : ℕ). spanForm w (labelNumber (cutBefore k bs)) x (fieldsOf (cutAfter m (cutAfter k bs)))) (n .1)
-        ∙ sym (split g ∙ both-read w (cutBefore k bs) (cutBefore m (cutAfter k bs)) _ (f .0) (n .0))
+  -- a label: the rest answers
+  pub change-numbers : (r : Line) (label : ℕ) → k < length bs
+      → (isLabel (cutBefore k bs) ≡ true) × (label ≡ labelNumber (cutBefore k bs))
+      → r ≡ numbersForm w label (fieldsOf (cutAfter k bs)) → r ≡ changeForm w (fieldsOf bs)
+  change-numbers r label h f a =
+      a
+      ∙ ap (λ (x : ℕ). numbersForm w x (fieldsOf (cutAfter k bs))) (f .1)
+      ∙ sym (ap (changeForm w) (fields-cut bs k e h) ∙ label-read w (cutBefore k bs) _ (f .0))
 
 -- ---- the first field of a line
 
@@ -195,14 +206,14 @@ no-form w (l ∷ (n ∷ (a ∷ (b ∷ (c ∷ more))))) z = refl
 
 -- ---- the line
 
-pub line-long : (bs : List ℕ) → 80 < length bs → Malformed ≡ lineOf bs
+pub line-long : (bs : List ℕ) → lineLength < length bs → Malformed ≡ lineOf bs
 unfolding lineOf
-line-long bs h = rw (lt-leb (length bs) 80 h)
+line-long bs h = rw (lt-leb (length bs) lineLength h)
 
-module _ (bs : List ℕ) (short : length bs ≤ 80) (k : ℕ) (e : k ≡ placeOf isComma bs) where
+module _ (bs : List ℕ) (short : length bs ≤ lineLength) (k : ℕ) (e : k ≡ placeOf isComma bs) where
   fits : lineOf bs ≡ formOf (fieldsOf bs)
   unfolding lineOf
-  fits = pick-true (leb (length bs) 80) (formOf (fieldsOf bs)) Malformed (le-leb (length bs) 80 short)
+  fits = pick-true (leb (length bs) lineLength) (formOf (fieldsOf bs)) Malformed (le-leb (length bs) lineLength short)
 
   pub line-none : length bs ≤ k → Malformed ≡ lineOf bs
   unfolding formOf

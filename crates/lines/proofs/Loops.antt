@@ -17,7 +17,8 @@ use Rattle.lists.specs.Choice.{pick}
 use Rattle.lists.specs.Members.{all, placeOf}
 use Rattle.lists.proofs.Choice.{bool-cases, and-both}
 use Rattle.lists.proofs.Members.{all-end, all-next, all-stop}
-use Rattle.lines.specs.Fields.{isComma, sameBytes, isDigit, isNumber, valueFrom, valueOf, NumberRead}
+use Rattle.lines.specs.Fields.{isComma, sameBytes, mostDigits, isDigit, isNumber, valueFrom, valueOf}
+use Rattle.lines.specs.Fields.{NumberRead}
 use Rattle.lines.specs.declared.NumberField.the-variants.{Value, Malformed}
 use Rattle.lines.proofs.Fields.{same-bytes-is}
 use Rattle.lines.proofs.Numbers.{number-made, no-number, tens, tens-rise, value-step}
@@ -105,7 +106,7 @@ module _ (bs : List ℕ) where
   pub refused-short : length bs < 1 → NumberRead bs Malformed
   refused-short h = refused (no-number bs (λ p. omega (arith, p .least)))
 
-  pub refused-long : 8 < length bs → NumberRead bs Malformed
+  pub refused-long : mostDigits < length bs → NumberRead bs Malformed
   refused-long h = refused (no-number bs (λ p. omega (arith, p .most)))
 
   pub refused-lead : getD bs 0 0 ≡ 48 → 1 < length bs → NumberRead bs Malformed
@@ -115,7 +116,7 @@ module _ (bs : List ℕ) where
   digits-none = record { within = omega arith; small = omega arith; digits = refl; value = refl }
 
   -- while a digit is left of at most eight, n has at most seven
-  pub digits-fit : (i n : ℕ) → i < length bs → length bs ≤ 8 → Digits bs i n → n < 10000000
+  pub digits-fit : (i n : ℕ) → i < length bs → length bs ≤ mostDigits → Digits bs i n → n < 10000000
   digits-fit i n h hi d = omega (arith, d .small, tens-rise i 7 (omega arith))
 
   -- a byte that is no digit
@@ -149,7 +150,7 @@ module _ (bs : List ℕ) where
   }
 
   -- all digits; the first is not 0, or it is the only one
-  pub digits-all : (i n : ℕ) → 1 ≤ length bs → length bs ≤ 8 → (length bs ≤ 1) ⊎ (getD bs 0 0 ≡ 48 → ⊥)
+  pub digits-all : (i n : ℕ) → 1 ≤ length bs → length bs ≤ mostDigits → (length bs ≤ 1) ⊎ (getD bs 0 0 ≡ 48 → ⊥)
       → length bs ≤ i → Digits bs i n → NumberRead bs (Value n)
   unfolding valueOf
   digits-all i n lo hi lead h d =

@@ -14,7 +14,7 @@ use lib.ListN.{length, getD}
 use borrow.Author.Tests.{leb-true, le-leb, eqb-true, eqb-false, eq-eqb, ne-eqb, not-true}
 use Rattle.lists.specs.Members.{all, any}
 use Rattle.lists.proofs.Choice.{bool-cases, and-left, and-right, and-both, or-none, or-left, or-right, pick-false}
-use Rattle.lines.specs.Fields.{isComma, isDigit, isNumber, valueFrom, valueOf, digitsBefore, digitsOf}
+use Rattle.lines.specs.Fields.{isComma, mostDigits, isDigit, isNumber, valueFrom, valueOf, digitsBefore, digitsOf}
 
 -- ---- the parts of a number
 
@@ -24,7 +24,7 @@ digit-is b h =
 
 pub record IsNumber (bs : List ℕ) : Type 0 where
   pub least : 1 ≤ length bs
-  pub most : length bs ≤ 8
+  pub most : length bs ≤ mostDigits
   pub digits : all isDigit bs ≡ true
   pub lead : (length bs ≡ 1) ⊎ (getD bs 0 0 ≡ 48 → ⊥)
 
@@ -32,16 +32,16 @@ pub number-parts : (bs : List ℕ) → isNumber bs ≡ true → IsNumber bs
 unfolding isNumber
 number-parts bs h = record {
   least = leb-true 1 (length bs) (and-left (leb 1 (length bs)) _ h);
-  most = leb-true (length bs) 8 (and-left (leb (length bs) 8) _ one);
+  most = leb-true (length bs) mostDigits (and-left (leb (length bs) mostDigits) _ one);
   digits = and-left (all isDigit bs) _ two;
   lead = lead-is (eqb (length bs) 1) (eqb (getD bs 0 0) 48) refl refl (and-right (all isDigit bs) _ two);
 }
   where
-    one : (leb (length bs) 8 && (all isDigit bs && (eqb (length bs) 1 || not (eqb (getD bs 0 0) 48)))) ≡ true
+    one : (leb (length bs) mostDigits && (all isDigit bs && (eqb (length bs) 1 || not (eqb (getD bs 0 0) 48)))) ≡ true
     one = and-right (leb 1 (length bs)) _ h
 
     two : (all isDigit bs && (eqb (length bs) 1 || not (eqb (getD bs 0 0) 48))) ≡ true
-    two = and-right (leb (length bs) 8) _ one
+    two = and-right (leb (length bs) mostDigits) _ one
 
     lead-is : (s t : Bool) → eqb (length bs) 1 ≡ s → eqb (getD bs 0 0) 48 ≡ t → (s || not t) ≡ true
         → (length bs ≡ 1) ⊎ (getD bs 0 0 ≡ 48 → ⊥)
@@ -52,7 +52,7 @@ pub number-made : (bs : List ℕ) → IsNumber bs → isNumber bs ≡ true
 unfolding isNumber
 number-made bs p =
     and-both (leb 1 (length bs)) _ (le-leb 1 (length bs) (p .least))
-    (and-both (leb (length bs) 8) _ (le-leb (length bs) 8 (p .most))
+    (and-both (leb (length bs) mostDigits) _ (le-leb (length bs) mostDigits (p .most))
     (and-both (all isDigit bs) _ (p .digits)
     (⊎-elim (λ e. or-left (eqb (length bs) 1) _ (eq-eqb (length bs) 1 e))
     (λ e. or-right (eqb (length bs) 1) _ (ap not (ne-eqb (getD bs 0 0) 48 e))) (p .lead))))

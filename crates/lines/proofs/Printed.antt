@@ -14,15 +14,15 @@ use lib.ListN.{length, length-append}
 use borrow.Author.Tests.{le-ltb, leb-true, leb-false}
 use Rattle.lists.specs.Choice.{pick}
 use Rattle.lists.proofs.Choice.{and-left, and-right}
-use Rattle.interval.specs.Time.{calendarEnd, span}
+use Rattle.interval.specs.Time.{calendarEnd}
 use Rattle.interval.specs.Label.{labelEnd, isLabel, labelNumber, labelCheck}
 use Rattle.interval.specs.Tuple.{from, to}
 use Rattle.interval.specs.declared.time.Chronon.{Chronon}
 use Rattle.interval.specs.declared.tuple.Tuple.{Tuple}
 use Rattle.interval.proofs.Labels.{letters-of-label, label-range}
-use Rattle.lines.specs.Fields.{comma, fieldsOf, sameBytes, isNumber, valueOf}
-use Rattle.lines.specs.Line.{lineLength, laneBytes, bytesOf, laneOf, changeOf, worded, formOf, lineOf}
-use Rattle.lines.specs.Line.{lineNumber, printed}
+use Rattle.lines.specs.Fields.{comma, fieldsOf, sameBytes, mostDigits, isNumber, valueOf}
+use Rattle.lines.specs.Line.{lineLength, laneBytes, bytesOf, laneOf, tupleRead, changeOf, worded, formOf}
+use Rattle.lines.specs.Line.{lineOf, lineNumber, printed}
 use Rattle.lines.specs.declared.Word.{Word}
 use Rattle.lines.specs.declared.Word.the-variants.{DrawIn, DrawOut, SpotIn, SpotOut}
 use Rattle.lines.specs.declared.Line.{Line}
@@ -51,9 +51,7 @@ pub record ChangeShape (line : Line) (bs : List ℕ) : Type 0 where
   pub first : isNumber a ≡ true
   pub last : isNumber b ≡ true
   pub bytes : bs ≡ bytesOf word ++ (comma ∷ (l ++ (comma ∷ (n ++ (comma ∷ (a ++ (comma ∷ b)))))))
-  pub reads :
-      line
-      ≡ Change word (record { label = labelNumber l; item = valueOf n; valid = span (valueOf a) (valueOf b) })
+  pub reads : line ≡ Change word (tupleRead l n a b)
 
 abbrev pub Shape : Line → List ℕ → Type 0
 Shape line bs = (line ≡ Malformed) ⊎ (LaneShape line bs ⊎ ChangeShape line bs)
@@ -82,10 +80,7 @@ unfolding changeOf
 change-shape w v l n a b e = go (isLabel l && (isNumber n && (isNumber a && isNumber b))) refl
   where
     go : (t : Bool) → (isLabel l && (isNumber n && (isNumber a && isNumber b))) ≡ t
-        → Shape
-        (pick t
-        (Change v (record { label = labelNumber l; item = valueOf n; valid = span (valueOf a) (valueOf b) }))
-        Malformed)
+        → Shape (pick t (Change v (tupleRead l n a b)) Malformed)
         (w ++ (comma ∷ (l ++ (comma ∷ (n ++ (comma ∷ (a ++ (comma ∷ b))))))))
     go false f = inl refl
     go true f =
@@ -221,11 +216,7 @@ line-change-bounds bs w t e = ⊎-elim none (⊎-elim lane change) (line-shape b
 
     change : ChangeShape (lineOf bs) bs → ChangeBounds t
     change s =
-        let q : record {
-          label = labelNumber (s .l);
-          item = valueOf (s .n);
-          valid = span (valueOf (s .a)) (valueOf (s .b));
-        } ≡ t = cc (s .reads) in
+        let q : tupleRead (s .l) (s .n) (s .a) (s .b) ≡ t = cc (s .reads) in
         subst (λ (u : Tuple). ChangeBounds u) q
         (record {
           label = label-passes (s .l) (s .label);
@@ -236,7 +227,7 @@ line-change-bounds bs w t e = ⊎-elim none (⊎-elim lane change) (line-shape b
 
 -- ---- length
 
-number-short : (bs : List ℕ) → isNumber bs ≡ true → length bs ≤ 8
+number-short : (bs : List ℕ) → isNumber bs ≡ true → length bs ≤ mostDigits
 number-short bs h = number-parts bs h .most
 
 label-short : (bs : List ℕ) → isLabel bs ≡ true → length bs ≤ 8
@@ -284,5 +275,5 @@ limit-idle bs = go (leb (length bs) lineLength) refl
     go : (t : Bool) → leb (length bs) lineLength ≡ t → pick t (formOf (fieldsOf bs)) Malformed ≡ formOf (fieldsOf bs)
     go true e = refl
     go false e =
-        ⊎-elim (λ f. sym f) (λ l. absurd (omega (arith, leb-false (length bs) 80 e)))
+        ⊎-elim (λ f. sym f) (λ l. absurd (omega (arith, leb-false (length bs) lineLength e)))
         (shape-length (formOf (fieldsOf bs)) bs form)

@@ -36,13 +36,16 @@ sameBytes (a ∷ rest) [] = false
 sameBytes (a ∷ rest) (b ∷ bs) = eqb a b && sameBytes rest bs
 
 -- "A number is 1 to 8 decimal digits, no leading 0 but `0` itself."
+abbrev pub mostDigits : ℕ
+mostDigits = 8
+
 abbrev pub isDigit : ℕ → Bool
 isDigit b = leb 48 b && leb b 57
 
 unfoldable pub isNumber : List ℕ → Bool
 isNumber bs =
     leb 1 (length bs)
-    && (leb (length bs) 8 && (all isDigit bs && (eqb (length bs) 1 || not (eqb (getD bs 0 0) 48))))
+    && (leb (length bs) mostDigits && (all isDigit bs && (eqb (length bs) 1 || not (eqb (getD bs 0 0) 48))))
 
 -- its value
 abbrev pub valueFrom : ℕ → List ℕ → ℕ

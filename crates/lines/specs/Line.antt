@@ -5,9 +5,9 @@ use Prim.Native.Nat.{ℕ}
 use lib.Dec.{leb}
 use lib.ListN.{length}
 use Rattle.lists.specs.Choice.{pick}
-use Rattle.interval.specs.Time.{span}
 use Rattle.interval.specs.Label.{isLabel, labelNumber, lettersOf}
-use Rattle.interval.specs.Tuple.{from, to}
+use Rattle.interval.specs.Tuple.{from, to, tuple}
+use Rattle.interval.specs.declared.tuple.Tuple.{Tuple}
 use Rattle.lines.specs.Fields.{comma, fieldsOf, sameBytes, isNumber, valueOf, digitsOf}
 use Rattle.lines.specs.declared.Word.{Word}
 use Rattle.lines.specs.declared.Word.the-variants.{DrawIn, DrawOut, SpotIn, SpotOut}
@@ -32,14 +32,18 @@ bytesOf SpotOut = 115 ∷ (112 ∷ (111 ∷ (116 ∷ (111 ∷ (117 ∷ (116 ∷ 
 unfoldable pub laneOf : List ℕ → Line
 laneOf m = pick (isNumber m) (Lane (record { 0 = valueOf m })) Malformed
 
+-- the tuple that a change's fields after its word say: label, number, first minute, last minute
+abbrev pub tupleRead : List ℕ → List ℕ → List ℕ → List ℕ → Tuple
+tupleRead l n a b = tuple (labelNumber l) (valueOf n) (valueOf a) (valueOf b)
+
 -- a word, then `,LABEL,NUMBER,FIRST,LAST`
 unfoldable pub changeOf : Word → List ℕ → List ℕ → List ℕ → List ℕ → Line
 changeOf w l n a b =
     pick (isLabel l && (isNumber n && (isNumber a && isNumber b)))
-    (Change w (record { label = labelNumber l; item = valueOf n; valid = span (valueOf a) (valueOf b) }))
+    (Change w (tupleRead l n a b))
     Malformed
 
--- the fields of a change after its word, and those after its label and its number
+-- the fields of a change after its word; those after its label; and those after its label and its number
 unfoldable pub changeForm : Word → List (List ℕ) → Line
 changeForm w (l ∷ (n ∷ (a ∷ (b ∷ [])))) = changeOf w l n a b
 changeForm w [] = Malformed
@@ -48,11 +52,19 @@ changeForm w (l ∷ (n ∷ [])) = Malformed
 changeForm w (l ∷ (n ∷ (a ∷ []))) = Malformed
 changeForm w (l ∷ (n ∷ (a ∷ (b ∷ (c ∷ more))))) = Malformed
 
+unfoldable pub numbersForm : Word → ℕ → List (List ℕ) → Line
+numbersForm w label (n ∷ (a ∷ (b ∷ []))) =
+    pick (isNumber n && (isNumber a && isNumber b))
+    (Change w (tuple label (valueOf n) (valueOf a) (valueOf b)))
+    Malformed
+numbersForm w label [] = Malformed
+numbersForm w label (n ∷ []) = Malformed
+numbersForm w label (n ∷ (a ∷ [])) = Malformed
+numbersForm w label (n ∷ (a ∷ (b ∷ (c ∷ more)))) = Malformed
+
 unfoldable pub spanForm : Word → ℕ → ℕ → List (List ℕ) → Line
 spanForm w label item (a ∷ (b ∷ [])) =
-    pick (isNumber a && isNumber b)
-    (Change w (record { label = label; item = item; valid = span (valueOf a) (valueOf b) }))
-    Malformed
+    pick (isNumber a && isNumber b) (Change w (tuple label item (valueOf a) (valueOf b))) Malformed
 spanForm w label item [] = Malformed
 spanForm w label item (a ∷ []) = Malformed
 spanForm w label item (a ∷ (b ∷ (c ∷ more))) = Malformed

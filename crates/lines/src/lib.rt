@@ -4,11 +4,16 @@
 ghost use mathlib.Core.Path.{_≡_};
 ghost use Rattle.lists.specs.Members.{placeOf};
 ghost use Rattle.lines.specs.Fields.{isComma, sameBytes, NumberRead, fieldsOf};
-ghost use Rattle.lines.specs.Line.{laneOf, spanForm, changeForm, lineOf};
+ghost use Rattle.lines.specs.Line.{laneOf, spanForm, numbersForm, changeForm, lineOf};
 use interval::label::LabelField;
 use interval::time::Chronon;
 use interval::time::Interval;
 use interval::tuple::Tuple;
+
+// The most bytes of a line, and the most digits of a number.
+pub const LINE_LENGTH: usize = 80;
+
+const MOST_DIGITS: usize = 8;
 
 // The four words of a change: which side, in or out.
 pub enum Word {
@@ -70,7 +75,7 @@ pub fn read_number(field: &[u8]) -> NumberField
     if len < 1 {
         return NumberField::Malformed;
     }
-    if 8 < len {
+    if MOST_DIGITS < len {
         return NumberField::Malformed;
     }
     if field[0] == 48 {
@@ -134,6 +139,21 @@ fn read_span(word: Word, label: u64, item: u64, rest: &[u8]) -> Line
     )
 }
 
+// The numbers of a change, after its second comma.
+fn read_numbers(word: Word, label: u64, rest: &[u8]) -> Line
+    ensures { λ r. ⌜ r ≡ numbersForm word label (fieldsOf (now (rest .entry))) ⌝ }
+{
+    let c = comma_from(rest);
+    if rest.len() <= c {
+        return Line::Malformed;
+    }
+    let number = read_number(&rest[0..c]);
+    let NumberField::Value(item) = number else {
+        return Line::Malformed;
+    };
+    read_span(word, label, item, &rest[c + 1..])
+}
+
 // A change's tuple, after its first comma.
 fn read_change(word: Word, rest: &[u8]) -> Line
     ensures { λ r. ⌜ r ≡ changeForm word (fieldsOf (now (rest .entry))) ⌝ }
@@ -146,23 +166,14 @@ fn read_change(word: Word, rest: &[u8]) -> Line
     let LabelField::Number(label) = named else {
         return Line::Malformed;
     };
-    let after = &rest[c + 1..];
-    let e = comma_from(after);
-    if after.len() <= e {
-        return Line::Malformed;
-    }
-    let number = read_number(&after[0..e]);
-    let NumberField::Value(item) = number else {
-        return Line::Malformed;
-    };
-    read_span(word, label, item, &after[e + 1..])
+    read_numbers(word, label, &rest[c + 1..])
 }
 
 // The line with these bytes before its byte 10.
 pub fn read_line(line: &[u8]) -> Line
     ensures { λ r. ⌜ r ≡ lineOf (now (line .entry)) ⌝ }
 {
-    if 80 < line.len() {
+    if LINE_LENGTH < line.len() {
         return Line::Malformed;
     }
     let c = comma_from(line);

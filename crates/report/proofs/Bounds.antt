@@ -28,7 +28,7 @@ use Rattle.part.proofs.Parts.{length-rows, sound-count}
 use Rattle.store.specs.Store.{rowPart, rowAtHome, soundRowPart, storedRows}
 use Rattle.store.proofs.Stores.{sound-rows-at, rows-at-home}
 use Rattle.lines.specs.Fields.{comma, digitsOf}
-use Rattle.report.specs.Text.{lineEnd, ended, rowsBytes, rowLine, countLine}
+use Rattle.report.specs.Text.{rowBytes, lineEnd, ended, rowsBytes, rowLine, countLine}
 use Rattle.report.specs.Text.{partitionText, rowCount, partitionsText, textOf}
 use Rattle.report.specs.Report.{textRoom, SortedStore}
 use Rattle.report.specs.Steps.{SoundStore}
@@ -41,8 +41,8 @@ total-most f most i zero h = omega arith
 total-most f most i (suc n) h =
     omega (arith, h i (omega arith), total-most f most (suc i) n (λ j l. h j (omega arith)), suc-mul n most)
 
-total-scaled : (f g : ℕ → ℕ) (i n : ℕ) → ((j : ℕ) → j < i + n → f j ≤ 48 * g j)
-    → total f (upFrom i n) ≤ 48 * total g (upFrom i n)
+total-scaled : (f g : ℕ → ℕ) (i n : ℕ) → ((j : ℕ) → j < i + n → f j ≤ rowBytes * g j)
+    → total f (upFrom i n) ≤ rowBytes * total g (upFrom i n)
 total-scaled f g i zero h = omega arith
 total-scaled f g i (suc n) h =
     omega (arith, h i (omega arith), total-scaled f g (suc i) n (λ j l. h j (omega arith)))
@@ -132,7 +132,7 @@ unfolding itemCheck
 item-most n e = ltb-false itemEnd n (refuse-none (ltb itemEnd n) 6 e)
 
 -- a legal row's line, for a lane number of at most two digits
-row-bound : (partition : ℕ) (r : Row) → partition < 100 → legalRow r ≡ true → length (rowLine partition r) ≤ 48
+row-bound : (partition : ℕ) (r : Row) → partition < 100 → legalRow r ≡ true → length (rowLine partition r) ≤ rowBytes
 unfolding rowLine
 row-bound partition r h l =
     let legal = legal-row r l in
@@ -149,8 +149,9 @@ row-bound partition r h l =
     ))
 
 -- the lines of legal rows
-rows-bound : (partition : ℕ) (ok : Row → Bool) (rs : List Row) → partition < 100 → ((r : Row) → ok r ≡ true → legalRow r ≡ true)
-    → all ok rs ≡ true → length (gather (rowLine partition) rs) ≤ 48 * length rs
+rows-bound : (partition : ℕ) (ok : Row → Bool) (rs : List Row) → partition < 100
+    → ((r : Row) → ok r ≡ true → legalRow r ≡ true)
+    → all ok rs ≡ true → length (gather (rowLine partition) rs) ≤ rowBytes * length rs
 rows-bound partition ok [] h legal e = omega arith
 rows-bound partition ok (r ∷ rs) h legal e =
     omega (
@@ -162,7 +163,7 @@ rows-bound partition ok (r ∷ rs) h legal e =
 
 module _ (p : Partitioning) (rows : List ℕ) (s : SoundStore p rows) where
   partition-bound : (i : ℕ) → i < p .count
-      → length (partitionText (i + 1) (rowPart p rows i)) ≤ 48 * counted (rowPart p rows i)
+      → length (partitionText (i + 1) (rowPart p rows i)) ≤ rowBytes * counted (rowPart p rows i)
   unfolding partitionText rowAtHome
   partition-bound i h =
       omega (

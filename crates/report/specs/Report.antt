@@ -14,12 +14,12 @@ use Rattle.part.specs.Part.{counted, rowsIn}
 use Rattle.store.specs.Store.{rowPart, soundRows}
 use Rattle.checks.specs.Stores.{rowsLength, rowsUnsound}
 use Rattle.report.specs.Order.{sorted}
-use Rattle.report.specs.Text.{rowCount, textOf}
+use Rattle.report.specs.Text.{headBytes, rowBytes, rowCount, textOf}
 use Rattle.report.specs.declared.Reported.{Reported}
 
 -- the bytes that the text of so many rows surely fits in (proved in proofs/Bounds.antt: text-bound)
 abbrev pub textRoom : ℕ → ℕ
-textRoom n = 16 + 48 * n
+textRoom n = headBytes + rowBytes * n
 
 -- checks 1 to 3 of the plan; 4, the store's length; 5, its soundness; and 4 again where the buffer is too short, which
 -- stands last since only a sound store tells how many rows there are

@@ -15,6 +15,13 @@ use Rattle.lines.specs.Fields.{comma, digitsOf}
 abbrev pub lineEnd : ℕ
 lineEnd = 10
 
+-- bytes that the line `rows,COUNT` surely fits in, and a row's line
+abbrev pub headBytes : ℕ
+headBytes = 16
+
+abbrev pub rowBytes : ℕ
+rowBytes = 48
+
 -- bytes and the byte after them
 abbrev pub ended : List ℕ → ℕ → List ℕ
 ended bytes b = bytes ++ (b ∷ [])

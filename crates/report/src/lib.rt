@@ -15,6 +15,11 @@ ghost use Rattle.report.specs.Steps.{SoundStore};
 use plan::PartitionIndex;
 use plan::Partitioning;
 
+// Bytes that the line `rows,COUNT` surely fits in, and a row's line.
+pub const HEAD_BYTES: usize = 16;
+
+pub const ROW_BYTES: usize = 48;
+
 // What `write` answers: the refusal number (0: accepted) and the length of the text.
 pub struct Reported {
     pub number: u64,
@@ -52,7 +57,7 @@ fn report_number(p: Partitioning, rows: &[u64], room: usize) -> u64
     if unsound != 0 {
         return unsound;
     }
-    if room < 16 + 48 * count_rows(p, rows) as usize {
+    if room < HEAD_BYTES + ROW_BYTES * count_rows(p, rows) as usize {
         return 4;
     }
     0

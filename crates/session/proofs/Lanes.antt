@@ -14,7 +14,7 @@ use Rattle.lists.proofs.Choice.{first-none, refuse-none, pick-true, pick-false}
 use Rattle.interval.specs.Time.{calendarEnd}
 use Rattle.interval.specs.declared.time.Chronon.{Chronon}
 use Rattle.plan.proofs.Homes.{le-or-lt, readAt}
-use Rattle.session.specs.Session.{withLane, lastCut, badLane, laneCheck}
+use Rattle.session.specs.Session.{wallPartitions, withLane, grown, lastCut, badLane, laneCheck}
 use Rattle.session.specs.declared.Session.{Session}
 
 -- the last minute of the lane before, as the code reads it
@@ -24,7 +24,7 @@ last-cut s = List·getD-map (λ (m : Chronon). m .0) (s .lasts) (s .lanes - 1) (
 -- ---- what may be the next lane
 
 pub record NextLane (s : Session) (m : ℕ) : Type 0 where
-  pub room : s .lanes < 8
+  pub room : s .lanes < wallPartitions
   pub above : 0 < s .lanes → lastCut s < m
   pub eighth : 7 ≤ s .lanes → m ≡ calendarEnd
 
@@ -36,13 +36,15 @@ abbrev early : Session → ℕ → Bool
 early s m = leb 7 (s .lanes) && not (eqb m calendarEnd)
 
 abbrev ninth : Session → Bool
-ninth s = leb 8 (s .lanes)
+ninth s = leb wallPartitions (s .lanes)
 
 module _ (s : Session) (m : ℕ) where
   -- it may not: a ninth, one that is not above the one before, an eighth that is not the end
-  pub bad-ninth : 8 ≤ s .lanes → badLane s m ≡ true
+  pub bad-ninth : wallPartitions ≤ s .lanes → badLane s m ≡ true
   unfolding badLane
-  bad-ninth h = or-right (low s m) (early s m || ninth s) (or-right (early s m) (ninth s) (le-leb 8 (s .lanes) h))
+  bad-ninth h =
+      or-right (low s m) (early s m || ninth s)
+      (or-right (early s m) (ninth s) (le-leb wallPartitions (s .lanes) h))
 
   pub bad-low : 0 < s .lanes → m ≤ lastCut s → badLane s m ≡ true
   unfolding badLane
@@ -71,7 +73,7 @@ module _ (s : Session) (m : ℕ) where
   unfolding badLane
   next-good n =
       or-none (low s m) (early s m || ninth s) (not-low (n .above))
-      (or-none (early s m) (ninth s) (not-early (n .eighth)) (lt-leb 8 (s .lanes) (n .room)))
+      (or-none (early s m) (ninth s) (not-early (n .eighth)) (lt-leb wallPartitions (s .lanes) (n .room)))
 
   -- and back
   low-none : low s m ≡ false → 0 < s .lanes → lastCut s < m
@@ -85,7 +87,7 @@ module _ (s : Session) (m : ℕ) where
   good-next e =
       let f = or-neither-right (low s m) (early s m || ninth s) e in
       record {
-        room = leb-false 8 (s .lanes) (or-neither-right (early s m) (ninth s) f);
+        room = leb-false wallPartitions (s .lanes) (or-neither-right (early s m) (ninth s) f);
         above = low-none (or-neither-left (low s m) (early s m || ninth s) e);
         eighth = early-none (or-neither-left (early s m) (ninth s) f);
       }
@@ -115,8 +117,10 @@ module _ (s : Session) (m : ℕ) where
 -- ---- one lane more
 
 -- what `with_lane` answers, where there is room and where there is none
-pub lane-added : (s : Session) (m : Chronon) → s .lanes < 8 → withLane s m ≡ pick (ltb (s .lanes) 8) (withLane s m) s
-lane-added s m h = sym (pick-true (ltb (s .lanes) 8) (withLane s m) s (lt-ltb (s .lanes) 8 h))
+pub lane-added : (s : Session) (m : Chronon) → s .lanes < wallPartitions → withLane s m ≡ grown s m
+lane-added s m h =
+    sym (pick-true (ltb (s .lanes) wallPartitions) (withLane s m) s (lt-ltb (s .lanes) wallPartitions h))
 
-pub lane-beyond : (s : Session) (m : Chronon) → 8 ≤ s .lanes → s ≡ pick (ltb (s .lanes) 8) (withLane s m) s
-lane-beyond s m h = sym (pick-false (ltb (s .lanes) 8) (withLane s m) s (le-ltb (s .lanes) 8 h))
+pub lane-beyond : (s : Session) (m : Chronon) → wallPartitions ≤ s .lanes → s ≡ grown s m
+lane-beyond s m h =
+    sym (pick-false (ltb (s .lanes) wallPartitions) (withLane s m) s (le-ltb (s .lanes) wallPartitions h))

@@ -12,7 +12,7 @@ use mathlib.Core.Path.{_≡_, refl, _∙_, ap}
 use Prim.Native.Nat.{ℕ, zero, suc, _*_, _≤_}
 use native.Mathlib.Omega.{arith}
 use lib.Dec.{ltb, eqb}
-use lib.ListN.{length, length-take}
+use lib.ListN.{length, take, length-take}
 use borrow.Author.Tests.{eq-eqb, eqb-true}
 use Rattle.lists.specs.Choice.{pick, refuseIf, firstOf}
 use Rattle.lists.specs.Members.{all, any}
@@ -41,8 +41,8 @@ use Rattle.lines.specs.declared.Word.the-variants.{DrawIn, DrawOut, SpotIn, Spo
 use Rattle.lines.specs.declared.Line.{Line}
 use Rattle.lines.specs.declared.Line.the-variants.{Lane, Change, Malformed}
 use Rattle.lines.proofs.Printed.{line-change-bounds}
-use Rattle.session.specs.Session.{planOf, withLane, usedTuples, usedRows, EightPartitions, wallOf, badLane}
-use Rattle.session.specs.Session.{laneCheck, laneNumber, callNumber, changeNumber, stepNumber}
+use Rattle.session.specs.Session.{planOf, withLane, usedTuples, usedRows, wallTupleWords, EightPartitions}
+use Rattle.session.specs.Session.{wallOf, badLane, laneCheck, laneNumber, callNumber, changeNumber, stepNumber}
 use Rattle.session.specs.declared.Session.{Session}
 use Rattle.session.proofs.Lanes.{lane-passed}
 use Rattle.session.proofs.Reached.{Reached, Good, good-with, reached-good, plan-legal}
@@ -50,38 +50,28 @@ use Rattle.session.proofs.Lengths.{SameLong, reached-long}
 
 -- ---- the wall of a complete plan has the lengths that the plan gives: checks 1 to 4 pass
 
-fits-tuples : (p : Partitioning) (n : ℕ) → planNumber p ≡ 0 → n ≡ p .count * tupleRoom p → fitsTuples p n ≡ true
-unfolding fitsTuples
-fits-tuples p n l e =
-    and-both (legalPlan p) (eqb n (p .count * tupleRoom p)) (plan-legal-test p l) (eq-eqb n (p .count * tupleRoom p) e)
-
-fits-rows : (p : Partitioning) (n : ℕ) → planNumber p ≡ 0 → n ≡ p .count * rowRoom p → fitsRows p n ≡ true
-unfolding fitsRows
-fits-rows p n l e =
-    and-both (legalPlan p) (eqb n (p .count * rowRoom p)) (plan-legal-test p l) (eq-eqb n (p .count * rowRoom p) e)
-
 module _ (s : Session) (S : Stores) (g : Good s) (done : s .complete ≡ true) (y : EightPartitions S) where
   abbrev wall : Stores
   wall = wallOf s S
 
-  outer-fits : fitsTuples (planOf s) (length (wall .outer)) ≡ true
-  outer-fits =
-      fits-tuples (planOf s) (length (wall .outer)) (plan-legal s g done)
-      (omega (arith, length-take (usedTuples s) (S .outer), g .most, y .outer))
+  -- the plan is legal, and a store of the plan's length has it
+  fit : (n long : ℕ) → n ≡ long → (legalPlan (planOf s) && eqb n long) ≡ true
+  fit n long e = and-both (legalPlan (planOf s)) _ (plan-legal-test (planOf s) (plan-legal s g done)) (eq-eqb n long e)
 
-  inner-fits : fitsTuples (planOf s) (length (wall .inner)) ≡ true
-  inner-fits =
-      fits-tuples (planOf s) (length (wall .inner)) (plan-legal s g done)
-      (omega (arith, length-take (usedTuples s) (S .inner), g .most, y .inner))
+  tuples-fit : (ws : List ℕ) → wallTupleWords ≤ length ws
+      → fitsTuples (planOf s) (length (take (usedTuples s) ws)) ≡ true
+  unfolding fitsTuples
+  tuples-fit ws l = fit _ (s .lanes * tupleRoom (planOf s)) (omega (arith, length-take (usedTuples s) ws, g .most))
 
   rows-fit : fitsRows (planOf s) (length (wall .rows)) ≡ true
+  unfolding fitsRows
   rows-fit =
-      fits-rows (planOf s) (length (wall .rows)) (plan-legal s g done)
+      fit (length (wall .rows)) (s .lanes * rowRoom (planOf s))
       (omega (arith, length-take (usedRows s) (S .rows), g .most, y .rows))
 
   pub wall-open : openNumber (planOf s) wall ≡ 0
   unfolding lengthsNumber tuplesLength rowsLength firstOf
-  wall-open = rw (plan-legal s g done, outer-fits, inner-fits, rows-fit)
+  wall-open = rw (plan-legal s g done, tuples-fit (S .outer) (y .outer), tuples-fit (S .inner) (y .inner), rows-fit)
 
 -- ---- the first check that applies, among numbers that pass a test
 

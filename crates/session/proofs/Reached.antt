@@ -21,8 +21,8 @@ use Rattle.plan.proofs.PlanLoops.{Rising, rising-start, rising-step, rising-end
 use Rattle.checks.specs.Stores.{Stores}
 use Rattle.lines.specs.declared.Line.{Line}
 use Rattle.lines.specs.declared.Line.the-variants.{Lane, Change, Malformed}
-use Rattle.session.specs.Session.{fresh, planOf, withLane, lastCut, laneCheck, laneNumber, stepNumber, sessionWith}
-use Rattle.session.specs.Session.{sessionAfter, SteppedBy}
+use Rattle.session.specs.Session.{wallPartitions, fresh, planOf, withLane, lastCut, laneCheck}
+use Rattle.session.specs.Session.{laneNumber, stepNumber, sessionWith, sessionAfter, SteppedBy}
 use Rattle.session.specs.declared.Session.{Session}
 use Rattle.session.specs.declared.Stepped.{Stepped}
 use Rattle.session.proofs.Lanes.{last-cut, NextLane, lane-passed}
@@ -40,14 +40,14 @@ cutAt s i = readAt (s .lasts) i
 
 pub record Good (s : Session) : Type 0 where
   pub places : length (s .lasts) ≡ 64
-  pub most : s .lanes ≤ 8
+  pub most : s .lanes ≤ wallPartitions
   -- each lane's last minute is above that of the lane before
   pub rises : (i : ℕ) → i + 1 < s .lanes → cutAt s i < cutAt s (i + 1)
   -- the plan is complete exactly if the last lane's is 99,999,999, and no lane's before it is
   pub ended : s .complete ≡ (ltb 0 (s .lanes) && eqb (lastCut s) calendarEnd)
   pub before : (i : ℕ) → i + 1 < s .lanes → cutAt s i ≡ calendarEnd → ⊥
   -- an eighth lane completes it
-  pub eighth : 8 ≤ s .lanes → s .complete ≡ true
+  pub eighth : wallPartitions ≤ s .lanes → s .complete ≡ true
 
 -- ---- at the start
 
@@ -200,5 +200,6 @@ module _ (s : Session) (g : Good s) (done : s .complete ≡ true) where
       })
 
 -- one that is not complete has room for the lane that completes it
-pub lane-left : (s : Session) → Good s → s .complete ≡ false → s .lanes < 8
-lane-left s g u = ⊎-elim (λ l. absurd (true≢false (sym (g .eighth l) ∙ u))) (λ l. l) (le-or-lt 8 (s .lanes))
+pub lane-left : (s : Session) → Good s → s .complete ≡ false → s .lanes < wallPartitions
+lane-left s g u =
+    ⊎-elim (λ l. absurd (true≢false (sym (g .eighth l) ∙ u))) (λ l. l) (le-or-lt wallPartitions (s .lanes))

@@ -12,7 +12,7 @@ use borrow.Author.Tests.{ne-eqb}
 use Rattle.lists.specs.Choice.{firstOf}
 use Rattle.interval.specs.declared.tuple.Tuple.{Tuple}
 use Rattle.plan.specs.Plan.{legalPlan}
-use Rattle.store.specs.Store.{fitsTuples, fitsRows}
+use Rattle.store.specs.Store.{tupleRoom, rowRoom, fitsTuples, fitsRows}
 use Rattle.checks.specs.Stores.{Stores, fitsAll, openNumber, storeNumber}
 use Rattle.checks.proofs.Checks.{lengths-are}
 use Rattle.join.specs.Changes.{insertNumber, deleteNumber}
@@ -38,14 +38,16 @@ module _ (s : Session) (S : Stores) (g : Good s) (done : s .complete ≡ true) w
   unfolding fitsTuples
   tuples-short ws h =
       let n = length (take (usedTuples s) ws) in
-      let ne = ne-eqb n (s .lanes * 129) (λ e. omega (arith, length-take (usedTuples s) ws, g .most)) in
+      let long = s .lanes * tupleRoom (planOf s) in
+      let ne = ne-eqb n long (λ e. omega (arith, length-take (usedTuples s) ws, g .most)) in
       ap (λ (b : Bool). legalPlan (planOf s) && b) ne ∙ and-false (legalPlan (planOf s))
 
   rows-short : (ws : List ℕ) → length ws < usedRows s → fitsRows (planOf s) (length (take (usedRows s) ws)) ≡ false
   unfolding fitsRows
   rows-short ws h =
       let n = length (take (usedRows s) ws) in
-      let ne = ne-eqb n (s .lanes * 321) (λ e. omega (arith, length-take (usedRows s) ws, g .most)) in
+      let long = s .lanes * rowRoom (planOf s) in
+      let ne = ne-eqb n long (λ e. omega (arith, length-take (usedRows s) ws, g .most)) in
       ap (λ (b : Bool). legalPlan (planOf s) && b) ne ∙ and-false (legalPlan (planOf s))
 
   which : Short s S

@@ -3,9 +3,8 @@
 use mathlib.Core.Path.{_≡_, refl, sym, _∙_, subst}
 use Prim.Native.Nat.{ℕ}
 use native.Mathlib.Omega.{arith}
-use lib.Dec.{ltb, eqb}
+use lib.Dec.{eqb}
 use borrow.Author.Tests.{eq-eqb, ne-eqb}
-use Rattle.lists.specs.Choice.{pick}
 use Rattle.lists.proofs.Choice.{pick-same, pick-true, pick-false, answer-here, answer-next, answer-last}
 use Rattle.interval.specs.Time.{calendarEnd}
 use Rattle.interval.specs.declared.time.Chronon.{Chronon}
@@ -14,7 +13,7 @@ use Rattle.checks.specs.Stores.{Stores}
 use Rattle.lines.specs.declared.Word.{Word}
 use Rattle.lines.specs.declared.Line.{Line}
 use Rattle.lines.specs.declared.Line.the-variants.{Lane, Change, Malformed}
-use Rattle.session.specs.Session.{withLane, laneCheck, laneNumber, stepNumber, sessionWith}
+use Rattle.session.specs.Session.{withLane, grown, laneCheck, laneNumber, stepNumber, sessionWith}
 use Rattle.session.specs.Session.{sessionAfter, Taken, SteppedBy, WallOpening, WallChanging}
 use Rattle.session.specs.declared.Session.{Session}
 use Rattle.session.specs.declared.Stepped.{Stepped}
@@ -87,7 +86,7 @@ module _ (s : Session) (m : Chronon) (S : Stores) (n : ℕ) (e : n ≡ laneCheck
   lane-refused ne = step-refused s (Lane m) S S n (answer-here _ e ne) ne refl
 
   -- past them: the session that `with_lane` gives is the one with the lane
-  module _ (z : n ≡ 0) (after : Session) (w : after ≡ pick (ltb (s .lanes) 8) (withLane s m) s) where
+  module _ (z : n ≡ 0) (after : Session) (w : after ≡ grown s m) where
     with-it : after ≡ withLane s m
     with-it = w ∙ sym (lane-added s m (lane-passed s (m .0) (sym e ∙ z) .1 .room))
 

@@ -9,10 +9,12 @@ use lib.Dec.{leb, ltb, eqb}
 use lib.ListN.{length, getD, take, drop, set, replicate}
 use Rattle.lists.specs.Choice.{pick, refuseIf, firstOf}
 use Rattle.interval.specs.Time.{calendarEnd}
+use Rattle.interval.specs.Tuple.{tupleWidth, rowWidth}
 use Rattle.interval.specs.declared.time.Chronon.{Chronon}
 use Rattle.interval.specs.declared.tuple.Tuple.{Tuple}
-use Rattle.plan.specs.Plan.{numbers}
+use Rattle.plan.specs.Plan.{mostPartitions, numbers}
 use Rattle.plan.specs.declared.Partitioning.{Partitioning}
+use Rattle.part.specs.Part.{roomOf}
 use Rattle.store.specs.Store.{tupleRoom, rowRoom}
 use Rattle.rows.specs.declared.Side.the-variants.{Outer, Inner}
 use Rattle.checks.specs.Stores.{Stores, stores, openNumber}
@@ -29,22 +31,22 @@ use Rattle.session.specs.declared.Stepped.{Stepped}
 -- ---- the session
 
 -- "The program `wall` reads standard input with up to 8 lanes, 32 tuples and 64 rows a lane."
-abbrev pub lanesMost : ℕ
-lanesMost = 8
+abbrev pub wallPartitions : ℕ
+wallPartitions = 8
 
-abbrev pub laneTuples : ℕ
-laneTuples = 32
+abbrev pub wallTuples : ℕ
+wallTuples = 32
 
-abbrev pub laneRows : ℕ
-laneRows = 64
+abbrev pub wallRows : ℕ
+wallRows = 64
 
 -- before the first line: no lane, and 0 in every place
 abbrev pub fresh : Session
-fresh = record { lanes = 0; lasts = replicate 64 (record { 0 = 0 }); complete = false }
+fresh = record { lanes = 0; lasts = replicate mostPartitions (record { 0 = 0 }); complete = false }
 
 -- the plan that the lanes taken so far make
 abbrev pub planOf : Session → Partitioning
-planOf s = record { count = s .lanes; lasts = s .lasts; tuples = laneTuples; rows = laneRows }
+planOf s = record { count = s .lanes; lasts = s .lasts; tuples = wallTuples; rows = wallRows }
 
 -- the session with one lane more; "the line with 99999999 completes the plan"
 abbrev pub withLane : Session → Chronon → Session
@@ -54,23 +56,34 @@ withLane s m = record {
   complete = eqb (m .0) calendarEnd;
 }
 
+-- the same where there is room for a lane more: with 8 there is none
+abbrev pub grown : Session → Chronon → Session
+grown s m = pick (ltb (s .lanes) wallPartitions) (withLane s m) s
+
 -- ---- the words in use: the first of each lent store, as many as the plan's lanes need, or all where there are fewer
 
 abbrev pub usedPartitions : Session → ℕ
-usedPartitions s = min (s .lanes) lanesMost
+usedPartitions s = min (s .lanes) wallPartitions
 
--- 129 words a lane, and 321
+-- 129 words a lane, 1 + 4 * 32, and 321, 1 + 5 * 64
 abbrev pub usedTuples : Session → ℕ
 usedTuples s = usedPartitions s * tupleRoom (planOf s)
 
 abbrev pub usedRows : Session → ℕ
 usedRows s = usedPartitions s * rowRoom (planOf s)
 
+-- the words of 8 lanes of tuples (1,032), and of rows (2,568)
+abbrev pub wallTupleWords : ℕ
+wallTupleWords = wallPartitions * roomOf tupleWidth wallTuples
+
+abbrev pub wallRowWords : ℕ
+wallRowWords = wallPartitions * roomOf rowWidth wallRows
+
 -- lent stores that have the words of 8 lanes, as the program's have
 pub record EightPartitions (S : Stores) : Type 0 where
-  pub outer : 8 * 129 ≤ length (S .outer)
-  pub inner : 8 * 129 ≤ length (S .inner)
-  pub rows : 8 * 321 ≤ length (S .rows)
+  pub outer : wallTupleWords ≤ length (S .outer)
+  pub inner : wallTupleWords ≤ length (S .inner)
+  pub rows : wallRowWords ≤ length (S .rows)
 
 -- the wall: the words in use
 abbrev pub wallOf : Session → Stores → Stores
@@ -93,7 +106,7 @@ lastCut s = getD (numbers (s .lasts)) (s .lanes - 1) 0
 unfoldable pub badLane : Session → ℕ → Bool
 badLane s m =
     (ltb 0 (s .lanes) && leb m (lastCut s))
-    || ((leb (lanesMost - 1) (s .lanes) && not (eqb m calendarEnd)) || leb lanesMost (s .lanes))
+    || ((leb (wallPartitions - 1) (s .lanes) && not (eqb m calendarEnd)) || leb wallPartitions (s .lanes))
 
 -- 16 for "a lane line after" the plan is complete, which comes before all others; then 2
 unfoldable pub laneCheck : Session → ℕ → ℕ

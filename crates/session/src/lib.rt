@@ -5,21 +5,42 @@
 // written. The definitions are in specs/Session.antt. Cost: that of the call on the join.
 ghost use mathlib.Core.Path.{_≡_};
 ghost use Prim.Native.Nat.{min};
-ghost use lib.Dec.{ltb};
-ghost use Rattle.lists.specs.Choice.{pick};
 ghost use Rattle.checks.specs.Stores.{stores};
 ghost use Rattle.lines.specs.Line.{lineOf};
 ghost use Rattle.lines.specs.declared.Line.the-variants.{Lane};
-ghost use Rattle.session.specs.Session.{fresh, planOf, withLane, usedPartitions, usedTuples, usedRows};
-ghost use Rattle.session.specs.Session.{laneCheck, Called, WallOpening, WallChanging, SteppedBy};
+ghost use Rattle.session.specs.Session.{fresh, planOf, grown, usedPartitions, usedTuples, usedRows, laneCheck};
+ghost use Rattle.session.specs.Session.{Called, WallOpening, WallChanging, SteppedBy};
 use interval::time::CALENDAR_END;
 use interval::time::Chronon;
+use interval::tuple::ROW_WIDTH;
+use interval::tuple::TUPLE_WIDTH;
 use interval::tuple::Tuple;
 use join::Answer;
 use lines::Line;
 use lines::Word;
+use plan::PLACES;
 use plan::Partitioning;
 use rows::Side;
+
+// The most lanes that the program reads, and the tuples and rows of a lane.
+pub const PARTITIONS: u64 = 8;
+
+pub const TUPLES: u64 = 32;
+
+pub const ROWS: u64 = 64;
+
+// The words of a lane of tuples and of rows: the count, and the records.
+const TUPLE_ROOM: usize = 1 + TUPLE_WIDTH * TUPLES as usize;
+
+const ROW_ROOM: usize = 1 + ROW_WIDTH * ROWS as usize;
+
+// The words of a tuple store and of the rows store that have room for every plan of the program.
+pub const TUPLE_WORDS: usize = PARTITIONS as usize * TUPLE_ROOM;
+
+pub const ROW_WORDS: usize = PARTITIONS as usize * ROW_ROOM;
+
+// The lanes before the last that there may be.
+const BEFORE_LAST: u64 = PARTITIONS - 1;
 
 // The number of a lane line after the plan is complete, and of a change before it is.
 const OUT_OF_TURN: u64 = 16;
@@ -27,7 +48,7 @@ const OUT_OF_TURN: u64 = 16;
 // The lane lines taken so far, the last minute of each, and whether the last one completed the plan.
 pub struct Session {
     pub lanes: u64,
-    pub lasts: [Chronon; 64],
+    pub lasts: [Chronon; PLACES],
     pub complete: bool,
 }
 
@@ -43,12 +64,12 @@ pub fn start() -> Session
 {
     Session {
         lanes: 0,
-        lasts: [Chronon(0); 64],
+        lasts: [Chronon(0); PLACES],
         complete: false,
     }
 }
 
-// The plan that the session's lanes make: 32 tuples and 64 rows a lane.
+// The plan that the session's lanes make.
 pub fn plan_of(s: Session) -> Partitioning
     ensures { λ r. ⌜ r ≡ planOf s ⌝ }
 {
@@ -56,37 +77,37 @@ pub fn plan_of(s: Session) -> Partitioning
     Partitioning {
         count: s.lanes,
         lasts,
-        tuples: 32,
-        rows: 64,
+        tuples: TUPLES,
+        rows: ROWS,
     }
 }
 
-// The lanes whose words are in use: at most 8.
+// The lanes whose words are in use: at most all.
 fn used_partitions(s: Session) -> usize
     ensures { λ r. ⌜ r ≡ usedPartitions s ⌝ }
 {
-    if s.lanes < 8 {
+    if s.lanes < PARTITIONS {
         return s.lanes as usize;
     }
-    8
+    PARTITIONS as usize
 }
 
-// The words in use of a tuple store of `len` words: 129 a lane, or all where there are fewer.
+// The words in use of a tuple store of `len` words: those of the lanes, or all where there are fewer.
 pub fn used_tuples(s: Session, len: usize) -> usize
     ensures { λ r. ⌜ r ≡ min (usedTuples s) len ⌝ }
 {
-    let used = used_partitions(s) * 129;
+    let used = used_partitions(s) * TUPLE_ROOM;
     if len < used {
         return len;
     }
     used
 }
 
-// The words in use of a rows store of `len` words: 321 a lane, or all where there are fewer.
+// The words in use of a rows store of `len` words: those of the lanes, or all where there are fewer.
 pub fn used_rows(s: Session, len: usize) -> usize
     ensures { λ r. ⌜ r ≡ min (usedRows s) len ⌝ }
 {
-    let used = used_partitions(s) * 321;
+    let used = used_partitions(s) * ROW_ROOM;
     if len < used {
         return len;
     }
@@ -100,7 +121,7 @@ fn lane_check(s: Session, m: Chronon) -> u64
     if s.complete {
         return OUT_OF_TURN;
     }
-    if 8 <= s.lanes {
+    if PARTITIONS <= s.lanes {
         return 2;
     }
     if 0 < s.lanes {
@@ -111,7 +132,7 @@ fn lane_check(s: Session, m: Chronon) -> u64
             return 2;
         }
     }
-    if s.lanes < 7 {
+    if s.lanes < BEFORE_LAST {
         return 0;
     }
     if m.0 != CALENDAR_END {
@@ -120,11 +141,11 @@ fn lane_check(s: Session, m: Chronon) -> u64
     0
 }
 
-// The session with one lane more; with 8 lanes there is no further one.
+// The session with one lane more; after the last that there may be there is no further one.
 fn with_lane(s: Session, m: Chronon) -> Session
-    ensures { λ r. ⌜ r ≡ pick (ltb (s .lanes) 8) (withLane s m) s ⌝ }
+    ensures { λ r. ⌜ r ≡ grown s m ⌝ }
 {
-    if 8 <= s.lanes {
+    if PARTITIONS <= s.lanes {
         return s;
     }
     let at = s.lanes as usize;
@@ -139,7 +160,9 @@ fn with_lane(s: Session, m: Chronon) -> Session
 
 // Opens the wall of the session's plan, on the words in use.
 fn open_wall(s: Session, outer: &mut [u64], inner: &mut [u64], rows: &mut [u64]) -> u64
-    ensures { λ r. ⌜ WallOpening s (stores (now (outer .entry)) (now (inner .entry)) (now (rows .entry))) (stores (now (outer .exit)) (now (inner .exit)) (now (rows .exit))) r ⌝ }
+    ensures { λ r. ⌜ WallOpening s
+        (stores (now (outer .entry)) (now (inner .entry)) (now (rows .entry)))
+        (stores (now (outer .exit)) (now (inner .exit)) (now (rows .exit))) r ⌝ }
 {
     let p = plan_of(s);
     let a = used_tuples(s, outer.len());
@@ -157,7 +180,9 @@ fn take_lane(
     inner: &mut [u64],
     rows: &mut [u64],
 ) -> Stepped
-    ensures { λ r. ⌜ SteppedBy s (Lane m) (stores (now (outer .entry)) (now (inner .entry)) (now (rows .entry))) (stores (now (outer .exit)) (now (inner .exit)) (now (rows .exit))) r ⌝ }
+    ensures { λ r. ⌜ SteppedBy s (Lane m)
+        (stores (now (outer .entry)) (now (inner .entry)) (now (rows .entry)))
+        (stores (now (outer .exit)) (now (inner .exit)) (now (rows .exit))) r ⌝ }
 {
     let after = with_lane(s, m);
     let number = lane_check(s, m);
@@ -192,7 +217,9 @@ fn call(
     inner: &mut [u64],
     rows: &mut [u64],
 ) -> Answer
-    ensures { λ r. ⌜ Called word p t (stores (now (outer .entry)) (now (inner .entry)) (now (rows .entry))) (stores (now (outer .exit)) (now (inner .exit)) (now (rows .exit))) r ⌝ }
+    ensures { λ r. ⌜ Called word p t
+        (stores (now (outer .entry)) (now (inner .entry)) (now (rows .entry)))
+        (stores (now (outer .exit)) (now (inner .exit)) (now (rows .exit))) r ⌝ }
 {
     match word {
         Word::DrawIn => join::insert(p, Side::Outer, t, outer, inner, rows),
@@ -211,7 +238,9 @@ fn change_on(
     inner: &mut [u64],
     rows: &mut [u64],
 ) -> u64
-    ensures { λ r. ⌜ WallChanging s word t (stores (now (outer .entry)) (now (inner .entry)) (now (rows .entry))) (stores (now (outer .exit)) (now (inner .exit)) (now (rows .exit))) r ⌝ }
+    ensures { λ r. ⌜ WallChanging s word t
+        (stores (now (outer .entry)) (now (inner .entry)) (now (rows .entry)))
+        (stores (now (outer .exit)) (now (inner .exit)) (now (rows .exit))) r ⌝ }
 {
     if !s.complete {
         return OUT_OF_TURN;
@@ -232,7 +261,9 @@ pub fn step_value(
     inner: &mut [u64],
     rows: &mut [u64],
 ) -> Stepped
-    ensures { λ r. ⌜ SteppedBy s line (stores (now (outer .entry)) (now (inner .entry)) (now (rows .entry))) (stores (now (outer .exit)) (now (inner .exit)) (now (rows .exit))) r ⌝ }
+    ensures { λ r. ⌜ SteppedBy s line
+        (stores (now (outer .entry)) (now (inner .entry)) (now (rows .entry)))
+        (stores (now (outer .exit)) (now (inner .exit)) (now (rows .exit))) r ⌝ }
 {
     match line {
         Line::Lane(m) => take_lane(s, m, outer, inner, rows),
@@ -255,7 +286,9 @@ pub fn step(
     inner: &mut [u64],
     rows: &mut [u64],
 ) -> Stepped
-    ensures { λ r. ⌜ SteppedBy s (lineOf (now (line .entry))) (stores (now (outer .entry)) (now (inner .entry)) (now (rows .entry))) (stores (now (outer .exit)) (now (inner .exit)) (now (rows .exit))) r ⌝ }
+    ensures { λ r. ⌜ SteppedBy s (lineOf (now (line .entry)))
+        (stores (now (outer .entry)) (now (inner .entry)) (now (rows .entry)))
+        (stores (now (outer .exit)) (now (inner .exit)) (now (rows .exit))) r ⌝ }
 {
     let value = lines::read_line(line);
     step_value(s, value, outer, inner, rows)

@@ -58,8 +58,8 @@ module _ (s : Session) (w : Word) (t : Tuple) (S : Stores) (ts : List Told) (g :
 
 -- ---- a line, and every line
 
-line-is : (s : Session) (line : Line) (S : Stores) (ts : List Told) → Good s → EightPartitions S → Labelled line → Holding ts s S
-    → isMet (stepNumber s line S) ≡ true
+line-is : (s : Session) (line : Line) (S : Stores) (ts : List Told) → Good s → EightPartitions S → Labelled line
+    → Holding ts s S → isMet (stepNumber s line S) ≡ true
 line-is s (Lane m) S ts g y l h = among-more laneNumbers numbersMet refl (laneNumber s m S) (lane-met s m S g y)
 line-is s (Change w t) S ts g y l h = change-is s w t S ts g y l h
 line-is s Malformed S ts g y l h = refl

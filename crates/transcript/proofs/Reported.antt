@@ -24,6 +24,7 @@ use Rattle.report.proofs.Reports.{passes}
 use Rattle.session.specs.Session.{planOf, wallOf}
 use Rattle.session.specs.declared.Session.{Session}
 use Rattle.session.proofs.Reached.{Good}
+use Rattle.transcript.specs.SessionKept.{wallRowsMost}
 
 -- a sound store holds at most the plan's rows in each of its lanes
 rows-within : (p : Partitioning) (rows : List ℕ) → soundRows p rows ≡ true → rowCount p rows ≤ p .count * p .rows
@@ -47,7 +48,7 @@ rows-fit p s e =
     and-right i r (and-right o (i && r) e)
 
 pub report-accepted : (m : Machine) (s : Session) (S : Stores) → Good s → Kept m (planOf s) (wallOf s S)
-    → (room : ℕ) → textRoom 512 ≤ room → reportNumber (planOf s) (wallOf s S .rows) room ≡ 0
+    → (room : ℕ) → textRoom wallRowsMost ≤ room → reportNumber (planOf s) (wallOf s S .rows) room ≡ 0
 unfolding rowsLength rowsUnsound
 report-accepted m s S g k room h =
     sym

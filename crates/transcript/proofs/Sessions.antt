@@ -23,7 +23,7 @@ use Rattle.session.specs.declared.Stepped.{Stepped}
 use Rattle.session.proofs.Reached.{Good, reached-good}
 use Rattle.transcript.specs.Transcript.{Transcript, begun, then}
 use Rattle.transcript.specs.Rows.{printedRows}
-use Rattle.transcript.specs.SessionKept.{Framed, AllFramed, Printed, SessionKept}
+use Rattle.transcript.specs.SessionKept.{Framed, AllFramed, Printed, wallRowsMost, SessionKept}
 use Rattle.transcript.proofs.Holding.{Holding, change-complete, change-frame, reached, holding}
 use Rattle.transcript.proofs.Numbers.{all-met}
 use Rattle.transcript.proofs.Reported.{report-accepted}
@@ -56,7 +56,7 @@ machine-kept ts s S h c m e =
 
 rows-printed : (m : Machine) (s : Session) (S : Stores) → Good s → Kept m (planOf s) (wallOf s S)
     → (out rows′ out′ : List ℕ) (r : Reported) → ReportWritten (planOf s) (wallOf s S .rows) out rows′ out′ r
-    → textRoom 512 ≤ length out → Printed (planOf s) (joinOf (m .outer) (m .inner)) out out′ r
+    → textRoom wallRowsMost ≤ length out → Printed (planOf s) (joinOf (m .outer) (m .inner)) out out′ r
 rows-printed m s S g k out rows′ out′ r w h =
     let z : r .number ≡ 0 = w .number ∙ report-accepted m s S g k (length out) h in
     let e : textOf (planOf s) rows′ ≡ printedRows (planOf s) (joinOf (m .outer) (m .inner)) =

@@ -3,7 +3,7 @@ use mathlib.Core.Bool.{Bool, true}
 use mathlib.Core.List.{List, [], _∷_, _++_}
 use mathlib.Core.Option.{some}
 use mathlib.Core.Path.{_≡_}
-use Prim.Native.Nat.{ℕ, _≤_}
+use Prim.Native.Nat.{ℕ, _*_, _≤_}
 use lib.Dec.{eqb}
 use lib.ListN.{length, drop}
 use Rattle.lists.specs.Members.{all, any}
@@ -18,7 +18,7 @@ use Rattle.report.specs.declared.Reported.{Reported}
 use Rattle.lines.specs.Line.{lineOf}
 use Rattle.lines.specs.declared.Line.{Line}
 use Rattle.lines.specs.declared.Line.the-variants.{Lane, Change, Malformed}
-use Rattle.session.specs.Session.{EightPartitions, planOf, wallOf}
+use Rattle.session.specs.Session.{wallPartitions, wallRows, EightPartitions, planOf, wallOf}
 use Rattle.session.specs.declared.Session.{Session}
 use Rattle.transcript.specs.Transcript.{Transcript, begun, then}
 use Rattle.transcript.specs.Rows.{printedRows}
@@ -50,6 +50,10 @@ pub record Printed (p : Partitioning) (rs : List Row) (out out′ : List ℕ) (r
   pub bytes : r .bytes ≡ length (printedRows p rs)
   pub text : out′ ≡ printedRows p rs ++ drop (length (printedRows p rs)) out
 
+-- the most rows that the program's wall holds: 8 lanes of 64, 512
+abbrev pub wallRowsMost : ℕ
+wallRowsMost = wallPartitions * wallRows
+
 -- what holds after the lines of a transcript
 pub record LinesKept {S₀ : Stores} {ns : List ℕ} {ts : List Told} {s : Session} {S : Stores}
     (x : Transcript S₀ ns ts s S) : Type 0 where
@@ -60,13 +64,13 @@ pub record LinesKept {S₀ : Stores} {ns : List ℕ} {ts : List Told} {s : Sessi
       → (m : Machine) × (machineAfter (planOf s) ts ≡ some m) × Current m (planOf s) (wallOf s S)
   -- each accepted change left the other lanes of store 3 as they were
   pub framed : AllFramed x
-  -- a report of the wall's rows is never refused, where the buffer has room for the text of 512 rows, 8 lanes of 64
-  pub reported : s .complete ≡ true → (room : ℕ) → textRoom 512 ≤ room
+  -- a report of the wall's rows is never refused, where the buffer has room for the text of the most rows
+  pub reported : s .complete ≡ true → (room : ℕ) → textRoom wallRowsMost ≤ room
       → reportNumber (planOf s) (wallOf s S .rows) room ≡ 0
   -- and it prints the rows of the machine's drawings and spots
   pub printed : s .complete ≡ true → (m : Machine) → machineAfter (planOf s) ts ≡ some m
       → (out rows′ out′ : List ℕ) (r : Reported) → ReportWritten (planOf s) (wallOf s S .rows) out rows′ out′ r
-      → textRoom 512 ≤ length out → Printed (planOf s) (joinOf (m .outer) (m .inner)) out out′ r
+      → textRoom wallRowsMost ≤ length out → Printed (planOf s) (joinOf (m .outer) (m .inner)) out out′ r
 
 -- Demand 3 of the program: for every list of lines that a session took since `fresh`, on lent stores that have the
 -- words of 8 lanes (1,032, 1,032 and 2,568)

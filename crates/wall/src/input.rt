@@ -1,11 +1,15 @@
-// Lines from standard input, in parts of any size as they come. Of an unfinished line at most 81 bytes are kept, so that
-// a line longer than 80 is one refusal however long it is.
+// Lines from standard input, in parts of any size as they come. Of an unfinished line at most one byte more than a line
+// may have is kept, so that a longer line is one refusal however long it is.
 ghost use mathlib.Core.Path.{_≡_};
 ghost use Prim.Native.Nat.{_≤_};
 ghost use lib.ListN.{length};
 use crate::output;
 use libc::STDIN_FILENO;
+use lines::LINE_LENGTH;
 use session::Session;
+
+// The bytes of an unfinished line that are kept.
+const KEPT_BYTES: usize = LINE_LENGTH + 1;
 
 // What was read: the session after the finished lines, how many they are, and how many bytes of the next one are kept.
 pub(crate) struct Reading {
@@ -29,7 +33,8 @@ fn line_end(part: &[u8], from: usize) -> usize
     i
 }
 
-// Keeps the bytes from `from` up to `end` after the `kept` ones, as far as there is room; answers how many are kept now.
+// Keeps the bytes from `from` up to `end` after the `kept` ones, as far as there is room; answers how many are kept
+// now.
 fn keep(line: &mut [u8], kept: usize, part: &[u8], from: usize, end: usize) -> usize
     requires { ⌜ kept ≤ length (now line) ⌝ }
     requires { ⌜ end ≤ length (now part) ⌝ }
@@ -110,7 +115,7 @@ fn take_part(
 // All of standard input, up to its end or to a read that fails. A proved loop has to end, and nothing says that the
 // input does, so the reads are counted down from a number that no run uses up.
 pub(crate) fn read_all(outer: &mut [u64], inner: &mut [u64], rows: &mut [u64]) -> Reading {
-    let mut line = [0u8; 81];
+    let mut line = [0u8; KEPT_BYTES];
     let mut part = io::buffer();
     let mut read = Reading {
         session: session::start(),

@@ -4,10 +4,13 @@
 mod input;
 mod output;
 
+use session::ROW_WORDS;
+use session::TUPLE_WORDS;
+
 fn main() {
-    let mut outer = [0u64; 1032];
-    let mut inner = [0u64; 1032];
-    let mut rows = [0u64; 2568];
+    let mut outer = [0u64; TUPLE_WORDS];
+    let mut inner = [0u64; TUPLE_WORDS];
+    let mut rows = [0u64; ROW_WORDS];
     let read = input::read_all(&mut outer, &mut inner, &mut rows);
     output::finish(read, &mut rows);
 }

@@ -7,7 +7,20 @@ ghost use Rattle.io.specs.Counts.{Counts};
 use crate::input;
 use crate::input::Reading;
 use libc::STDOUT_FILENO;
+use report::HEAD_BYTES;
+use report::ROW_BYTES;
+use session::PARTITIONS;
+use session::ROWS;
 use session::Session;
+
+// The most digits of a 64-bit number.
+const MOST_DIGITS: usize = 20;
+
+// The bytes that a refusal surely fits in.
+const REFUSAL_BYTES: usize = 64;
+
+// The bytes that the report of all lanes, each full of rows, surely fits in.
+const TEXT_BYTES: usize = HEAD_BYTES + ROW_BYTES * (PARTITIONS * ROWS) as usize;
 
 // Puts bytes into the text from `at` on; answers the place after them.
 fn put(text: &mut [u8], at: usize, bytes: &[u8]) -> usize
@@ -28,7 +41,7 @@ fn put_number(text: &mut [u8], at: usize, n: u64) -> usize
     requires { ⌜ at + 20 ≤ length (now text) ⌝ }
     ensures { λ r. ⌜ r ≤ at + 20 ⌝ }
 {
-    let mut digits = [0u8; 20];
+    let mut digits = [0u8; MOST_DIGITS];
     let k = io::decimal(n, &mut digits);
     put(text, at, &digits[..k])
 }
@@ -47,7 +60,7 @@ fn put_refusal(text: &mut [u8], line: u64, number: u64) -> usize
 
 // Prints a refusal, by one write.
 pub(crate) fn refuse(line: u64, number: u64) {
-    let mut text = [0u8; 64];
+    let mut text = [0u8; REFUSAL_BYTES];
     let n = put_refusal(&mut text, line, number);
     io::write_all(STDOUT_FILENO, &text[..n]);
 }
@@ -57,13 +70,12 @@ fn print_none() {
     io::write_all(STDOUT_FILENO, b"rows,0\n");
 }
 
-// Prints the report of the session's wall: 8 lanes of 64 rows, for which `report` asks 16 + 48 * 512 bytes. It refuses
-// only a store that no session leaves (crate `transcript`: the field `reported` of `LinesKept`); then there are no rows
-// to print.
+// Prints the report of the session's wall. `report` refuses only a store that no session leaves (crate `transcript`:
+// the field `reported` of `LinesKept`); then there are no rows to print.
 fn print_rows(s: Session, rows: &mut [u64]) {
     let p = session::plan_of(s);
     let used = session::used_rows(s, rows.len());
-    let mut text = [0u8; 24592];
+    let mut text = [0u8; TEXT_BYTES];
     let written = report::write(p, &mut rows[..used], &mut text);
     if written.number != 0 {
         print_none();

@@ -1,4 +1,4 @@
--- `exports::lasts_in` meets its contract. The loop's invariant is `Copied`: the first i of the 64 places hold the last
+-- `exports::lasts_in` meets its contract. The loop's invariant is `Copied`: the first i places hold the last
 -- minutes of the words from the given place on. The measure is how many places are left.
 -- Assumes nothing.
 use mathlib.Core.List.{List}
@@ -8,6 +8,7 @@ use native.Mathlib.Nat.{zero-add}
 use native.Mathlib.Omega.{arith}
 use lib.ListN.{length, take, drop, replicate}
 use Rattle.interval.specs.declared.time.Chronon.{Chronon}
+use Rattle.plan.specs.Plan.{mostPartitions}
 use Rattle.exports.specs.Exports.{minutes}
 use Rattle.exports.proofs.Words.{Copied, copied-none, copied-more, copied-length, copied-all}
 use Rattle.exports.proofs.Words.{length-minutes-at, minute-at}
@@ -15,19 +16,19 @@ use Rattle.exports.proofs.lasts_in.Statement.{statement}
 use Rattle.exports.proofs.lasts_in.Tie as tie
 
 abbrev Inv-loop : tie.InvT-loop
-Inv-loop words from lasts₀ i₀ lasts i = Copied lasts₀ 0 (minutes (take 64 (drop from words))) i lasts
+Inv-loop words from lasts₀ i₀ lasts i = Copied lasts₀ 0 (minutes (take mostPartitions (drop from words))) i lasts
 
 abbrev μ-loop : tie.MeasureT-loop
-μ-loop words from lasts₀ i₀ lasts i = 64 - i
+μ-loop words from lasts₀ i₀ lasts i = mostPartitions - i
 
 -- what is copied, and how much it is
 abbrev said : tie.Start Inv-loop μ-loop → List Chronon
-said c = minutes (take 64 (drop (c .args .from) (c .args .words .now)))
+said c = minutes (take mostPartitions (drop (c .args .from) (c .args .words .now)))
 
-many : (c : tie.Start Inv-loop μ-loop) → length (said c) ≡ 64
+many : (c : tie.Start Inv-loop μ-loop) → length (said c) ≡ mostPartitions
 many c = length-minutes-at (c .args .from) (c .args .words .now) (c .pre)
 
-long : (c : tie.At-loop Inv-loop μ-loop) → length (c .loop .lasts) ≡ 64
+long : (c : tie.At-loop Inv-loop μ-loop) → length (c .loop .lasts) ≡ mostPartitions
 long c = copied-length _ 0 (said (c .before)) (c .loop .i) (c .loop .lasts) (c .loop .inv)
 
 loop-holds : tie.Need-loop-holds Inv-loop μ-loop
@@ -66,7 +67,7 @@ loop-again c =
 returns : tie.Need-returns Inv-loop μ-loop
 returns c =
     let at = c .before in
-    copied-all (replicate 64 (record { 0 = 0 })) 0 (said (at .before)) (at .loop .i) (at .loop .lasts)
+    copied-all (replicate mostPartitions (record { 0 = 0 })) 0 (said (at .before)) (at .loop .i) (at .loop .lasts)
     (omega (arith, many (at .before))) (zero-add (length (said (at .before))) ∙ many (at .before)) (at .loop .inv)
 
 pub lasts-in-spec : {M : Type 1} → statement M

@@ -1,31 +1,33 @@
 -- `exports::put_lasts` meets its contract. The loop's invariant is `Copied`: the first i last minutes stand in the
--- plan's words from place 3 on, the others are as they were. The measure is how many are left.
+-- plan's words after the three before them, the others are as they were. The measure is how many are left.
 -- Assumes nothing.
 use mathlib.Core.Path.{_≡_, refl, sym, _∙_}
 use Prim.Native.Nat.{_+_, _-_}
 use native.Mathlib.Omega.{arith}
 use lib.ListN.{length, length-map, List·getD-map}
 use Rattle.interval.specs.declared.time.Chronon.{Chronon}
-use Rattle.plan.specs.Plan.{numbers}
+use Rattle.plan.specs.Plan.{mostPartitions, numbers}
+use Rattle.exports.specs.Exports.{planHead, planWords}
 use Rattle.exports.proofs.Words.{Copied, copied-none, copied-more, copied-length, copied-all}
 use Rattle.exports.proofs.put_lasts.Statement.{statement}
 use Rattle.exports.proofs.put_lasts.Tie as tie
 
 abbrev Inv-loop : tie.InvT-loop
-Inv-loop plan₀ lasts i₀ plan i = Copied plan₀ 3 (numbers lasts) i plan
+Inv-loop plan₀ lasts i₀ plan i = Copied plan₀ planHead (numbers lasts) i plan
 
 abbrev μ-loop : tie.MeasureT-loop
-μ-loop plan₀ lasts i₀ plan i = 64 - i
+μ-loop plan₀ lasts i₀ plan i = mostPartitions - i
 
 -- what is copied, and how much it is
-many : (c : tie.Start Inv-loop μ-loop) → length (numbers (c .args .t1)) ≡ 64
+many : (c : tie.Start Inv-loop μ-loop) → length (numbers (c .args .t1)) ≡ mostPartitions
 many c = rw length-map (omega arith)
 
-long : (c : tie.At-loop Inv-loop μ-loop) → length (c .loop .plan) ≡ 67
-long c = copied-length (c .before .args .plan .now) 3 _ (c .loop .i) (c .loop .plan) (c .loop .inv) ∙ c .before .pre
+long : (c : tie.At-loop Inv-loop μ-loop) → length (c .loop .plan) ≡ planWords
+long c =
+    copied-length (c .before .args .plan .now) planHead _ (c .loop .i) (c .loop .plan) (c .loop .inv) ∙ c .before .pre
 
 loop-holds : tie.Need-loop-holds Inv-loop μ-loop
-loop-holds c = copied-none (c .args .plan .now) 3 _ (omega (arith, many c, c .pre))
+loop-holds c = copied-none (c .args .plan .now) planHead _ (omega (arith, many c, c .pre))
 
 mul-last : tie.Need-mul-last Inv-loop μ-loop
 mul-last c = omega arith
@@ -52,7 +54,7 @@ loop-again : tie.Need-loop-again Inv-loop μ-loop
 loop-again c =
     let at = c .before .before in
     let a = at .before .args in
-    copied-more (a .plan .now) 3 (numbers (a .t1)) (at .loop .i) (3 + at .loop .i) (at .loop .plan) _ 0
+    copied-more (a .plan .now) planHead (numbers (a .t1)) (at .loop .i) (planHead + at .loop .i) (at .loop .plan) _ 0
     (omega (arith, many (at .before))) refl
     (sym (List·getD-map (λ (m : Chronon). m .0) (a .t1) (at .loop .i) (record { 0 = 0 })))
     (at .loop .inv)
@@ -63,7 +65,7 @@ same-length c = long (c .before) ∙ sym (c .before .before .pre)
 returns : tie.Need-returns Inv-loop μ-loop
 returns c =
     let at = c .before in
-    copied-all (at .before .args .plan .now) 3 (numbers (at .before .args .t1)) (at .loop .i) (at .loop .plan)
+    copied-all (at .before .args .plan .now) planHead (numbers (at .before .args .t1)) (at .loop .i) (at .loop .plan)
     (omega (arith, many (at .before))) (omega (arith, many (at .before), at .before .pre)) (at .loop .inv)
 
 pub put-lasts-spec : {M : Type 1} → statement M

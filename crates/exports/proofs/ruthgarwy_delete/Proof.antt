@@ -1,50 +1,19 @@
--- `exports::ruthgarwy_delete` meets its contract: lengths, then `join::delete` with the plan, side and tuple that the
--- words say.
+-- `exports::ruthgarwy_delete` meets its contract: a change of its kind, with the side and the tuple that the words say.
 -- Assumes nothing.
-use mathlib.Core.Path.{_≡_, refl}
-use Rattle.checks.specs.Stores.{stores}
-use Rattle.join.specs.Changes.{Deleted}
-use Rattle.exports.specs.Exports.{planIn, sideOf, tupleFrom, lengthsAre}
-use Rattle.exports.proofs.Exporting.{deleted-said}
-use Rattle.exports.proofs.Exporting.{plan-wrong, answer-wrong, lengths-right, exported-refused, exported-called}
+use Rattle.exports.specs.declared.Kind.the-variants.{Delete}
+use Rattle.exports.proofs.Exporting.{change-said}
 use borrow.Author.Needs.{needs}
 use Rattle.exports.proofs.ruthgarwy_delete.Statement.{statement}
 use Rattle.exports.proofs.ruthgarwy_delete.Tie as tie
 
-returns : tie.Need-returns
-returns c =
-    let a = c .before .before .before .before .before .before .args in
-    let s = stores (a .outer .now) (a .inner .now) (a .rows .now) in
-    let t = tupleFrom (a .label) (a .item) (a .first) (a .last) in
-    exported-refused {Kept = s ≡ s}
-    {Done = λ r. Deleted (planIn (a .plan .now)) (sideOf (a .side)) t s s r}
-    (lengthsAre (a .plan .now) (a .answer .now)) (a .answer .now)
-    (plan-wrong (a .plan .now) (a .answer .now) (c .if1 .taken)) refl
-
-returns-2 : tie.Need-returns-2
-returns-2 c =
-    let a = c .before .before .before .before .before .before .before .args in
-    let s = stores (a .outer .now) (a .inner .now) (a .rows .now) in
-    let t = tupleFrom (a .label) (a .item) (a .first) (a .last) in
-    exported-refused {Kept = s ≡ s}
-    {Done = λ r. Deleted (planIn (a .plan .now)) (sideOf (a .side)) t s s r}
-    (lengthsAre (a .plan .now) (a .answer .now)) (a .answer .now)
-    (answer-wrong (a .plan .now) (a .answer .now) (c .if2 .taken)) refl
-
 tuple-of-requires : tie.Need-tuple-of-requires
 tuple-of-requires c κs = search needs
-
-plan-in-requires : tie.Need-plan-in-requires
-plan-in-requires c κs = search needs
 
 side-of-requires : tie.Need-side-of-requires
 side-of-requires c κs = search needs
 
-delete-requires : tie.Need-delete-requires
-delete-requires c κs = search needs
-
-tell-requires : tie.Need-tell-requires
-tell-requires c κs = search needs
+change-requires : tie.Need-change-requires
+change-requires c κs = search needs
 
 same-length : tie.Need-same-length
 same-length c = search needs
@@ -58,41 +27,24 @@ same-length-3 c = search needs
 same-length-4 : tie.Need-same-length-4
 same-length-4 c = search needs
 
-returns-3 : tie.Need-returns-3
-returns-3 c =
-    let called = c .before .before .before .before .before .before .before .before .before .before in
-    let side = called .before .before .before .before in
-    let plan = side .before in
-    let tuple = plan .before in
-    let passed = tuple .before in
-    let a = passed .before .before .before .before .before .before .before .args in
-    let s = stores (a .outer .now) (a .inner .now) (a .rows .now) in
-    let t = tupleFrom (a .label) (a .item) (a .first) (a .last) in
-    let o = called .delete .last .1 .1 .1 in
-    let s′ = stores (o .0) (o .1 .0) (o .1 .1 .0) in
-    exported-called {Kept = s′ ≡ s}
-    {Done = λ r. Deleted (planIn (a .plan .now)) (sideOf (a .side)) t s s′ r}
-    (lengthsAre (a .plan .now) (a .answer .now)) (a .answer .now) (c .before .before .tell .last .1 .0)
-    (c .before .before .tell .result) (called .delete .result)
-    (lengths-right (a .plan .now) (a .answer .now) (passed .before .if1 .left) (passed .if2 .left))
-    (c .before .before .tell .ensures)
-    (deleted-said (plan .plan-in .result) (planIn (a .plan .now)) (side .side-of .result) (sideOf (a .side))
-    (tuple .tuple-of .result) t s s′ (called .delete .result) (plan .plan-in .ensures) (side .side-of .ensures)
-    (tuple .tuple-of .ensures) (called .delete .ensures))
+returns : tie.Need-returns
+returns c =
+    let changed = c .before .before .before .before .before .before .before .before in
+    let side = changed .before .before .before .before .before in
+    let tuple = side .before in
+    let a = tuple .before .before .before .before .before .before .args in
+    change-said Delete (a .plan .now) _ _ _ _ _ _ _ _ _ _ _ _ _ (side .side-of .ensures) (tuple .tuple-of .ensures)
+    (changed .change .ensures)
 
 pub ruthgarwy-delete-spec : {M : Type 1} → statement M
 ruthgarwy-delete-spec =
     tie.close
     (tie.spec
-    returns
-    returns-2
     tuple-of-requires
-    plan-in-requires
     side-of-requires
-    delete-requires
-    tell-requires
+    change-requires
     same-length
     same-length-2
     same-length-3
     same-length-4
-    returns-3)
+    returns)

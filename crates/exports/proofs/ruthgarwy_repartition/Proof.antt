@@ -5,6 +5,7 @@ use mathlib.Core.Bool.{Bool, _&&_}
 use mathlib.Core.Path.{_≡_, refl, _∙_}
 use lib.Dec.{eqb}
 use lib.ListN.{length, length-map}
+use Rattle.plan.specs.Plan.{mostPartitions}
 use Rattle.checks.specs.Stores.{stores}
 use Rattle.join.specs.Repartitioning.{Repartitioned}
 use Rattle.exports.specs.Exports.{minutes, planIn, lengthsAre}
@@ -18,7 +19,7 @@ use Rattle.exports.proofs.ruthgarwy_repartition.Tie as tie
 -- whether the lengths are right
 abbrev right : tie.Start → Bool
 right c =
-    lengthsAre (c .args .plan .now) (c .args .answer .now) && eqb (length (c .args .cuts .now)) 64
+    lengthsAre (c .args .plan .now) (c .args .answer .now) && eqb (length (c .args .cuts .now)) mostPartitions
 
 returns : tie.Need-returns
 returns c =

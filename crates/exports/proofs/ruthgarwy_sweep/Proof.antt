@@ -62,14 +62,16 @@ returns-3 c =
     let s = stores (a .outer .now) (a .inner .now) (a .rows .now) in
     let o = called .sweep .last .1 .1 .1 in
     let s′ = stores (a .outer .now) (a .inner .now) (o .0) in
-    exported-called {Kept = (o .0 ≡ a .rows .now) × (o .1 .0 ≡ a .outer-cache .now) × (o .1 .1 .0 ≡ a .inner-cache .now)}
-    {Done = λ r. Swept (planIn (a .plan .now)) s (a .outer-cache .now) (a .inner-cache .now) s′ (o .1 .0) (o .1 .1 .0) r}
+    let c₀ = a .outer-cache .now in
+    let d₀ = a .inner-cache .now in
+    exported-called {Kept = (o .0 ≡ a .rows .now) × (o .1 .0 ≡ c₀) × (o .1 .1 .0 ≡ d₀)}
+    {Done = λ r. Swept (planIn (a .plan .now)) s c₀ d₀ s′ (o .1 .0) (o .1 .1 .0) r}
     (lengthsAre (a .plan .now) (a .answer .now)) (a .answer .now) (c .before .before .tell .last .1 .0)
     (c .before .before .tell .result) (called .sweep .result)
     (lengths-right (a .plan .now) (a .answer .now) (passed .before .if1 .left) (passed .if2 .left))
     (c .before .before .tell .ensures)
-    (swept-said (plan .plan-in .result) (planIn (a .plan .now)) s (a .outer-cache .now) (a .inner-cache .now) s′
-    (o .1 .0) (o .1 .1 .0) (called .sweep .result) (plan .plan-in .ensures) (called .sweep .ensures))
+    (swept-said (plan .plan-in .result) (planIn (a .plan .now)) s c₀ d₀ s′ (o .1 .0) (o .1 .1 .0)
+    (called .sweep .result) (plan .plan-in .ensures) (called .sweep .ensures))
 
 pub ruthgarwy-sweep-spec : {M : Type 1} → statement M
 ruthgarwy-sweep-spec =

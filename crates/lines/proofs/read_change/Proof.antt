@@ -1,10 +1,10 @@
--- `lines::read_change` meets its contract: a label up to the first comma, a number up to the second, and the rest.
+-- `lines::read_change` meets its contract: a label up to the first comma, and the numbers after it.
 -- Assumes nothing.
 use native.Mathlib.Omega.{arith}
 use borrow.Author.Needs.{needs}
-use Rattle.lines.proofs.Answers.{number-value, number-refused, label-value, label-refused}
-use Rattle.lines.proofs.Fields.{cutBefore, cutAfter}
-use Rattle.lines.proofs.Forms.{change-none, change-label, change-short, change-item, change-span}
+use Rattle.lines.proofs.Answers.{label-value, label-refused}
+use Rattle.lines.proofs.Fields.{cutBefore}
+use Rattle.lines.proofs.Forms.{change-none, change-label, change-numbers}
 use Rattle.lines.proofs.read_change.Statement.{statement}
 use Rattle.lines.proofs.read_change.Tie as tie
 
@@ -46,99 +46,33 @@ returns-2 c =
     change-label w bs (k .result) (k .ensures) (omega (arith, c .before .before .before .before .if1 .left))
     (label-refused (cutBefore (k .result) bs) (r .result) (r .ensures) (c .enum-told .given .1))
 
-add-after : tie.Need-add-after
-add-after c = search needs
+add-read-numbers : tie.Need-add-read-numbers
+add-read-numbers c = search needs
 
-sub-after : tie.Need-sub-after
-sub-after c = search needs
+sub-read-numbers : tie.Need-sub-read-numbers
+sub-read-numbers c = search needs
 
-part-after-start : tie.Need-part-after-start
-part-after-start c = search needs
+part-read-numbers-start : tie.Need-part-read-numbers-start
+part-read-numbers-start c = search needs
 
-part-after-end : tie.Need-part-after-end
-part-after-end c = search needs
+part-read-numbers-end : tie.Need-part-read-numbers-end
+part-read-numbers-end c = search needs
 
-comma-from-requires-2 : tie.Need-comma-from-requires-2
-comma-from-requires-2 c κs = search needs
+read-numbers-requires : tie.Need-read-numbers-requires
+read-numbers-requires c κs = search needs
 
 returns-3 : tie.Need-returns-3
 returns-3 c =
     let c5 = c .before .before .before .before .before in
-    let c10 = c5 .before .before .before .before .before in
-    let w = c10 .before .args .word in
-    let bs = c10 .before .args .rest .now in
-    let k = c5 .before .before .before .before .comma-from in
-    let m = c .before .comma-from2 in
-    change-short w bs (k .result) (k .ensures) (m .result) (m .ensures)
-    (omega (arith, c5 .before .before .before .if1 .left)) (omega arith)
-
-sub-read-number : tie.Need-sub-read-number
-sub-read-number c = search needs
-
-part-read-number-start : tie.Need-part-read-number-start
-part-read-number-start c = search needs
-
-part-read-number-end : tie.Need-part-read-number-end
-part-read-number-end c = search needs
-
-read-number-requires : tie.Need-read-number-requires
-read-number-requires c κs = search needs
-
-enum-known-number : tie.Need-enum-known-number
-enum-known-number c = search needs
-
-enum-told-2 : tie.Need-enum-told-2
-enum-told-2 c = search needs
-
-returns-4 : tie.Need-returns-4
-returns-4 c =
-    let c5 = c .before .before .before .before .before in
-    let c10 = c5 .before .before .before .before .before in
-    let c15 = c10 .before .before .before .before .before in
-    let w = c15 .args .word in
-    let bs = c15 .args .rest .now in
-    let k = c10 .before .before .before .comma-from in
-    let m = c5 .comma-from2 in
-    let r = c .before .before .read-number in
-    change-item w bs (k .result) (k .ensures) (m .result) (m .ensures)
-    (omega (arith, c10 .before .before .if1 .left)) (omega (arith, c .before .before .before .before .if2 .left))
-    (number-refused (cutBefore (m .result) (cutAfter (k .result) bs)) (r .result) (r .ensures)
-    (c .enum-told2 .given .1))
-
-add-read-span : tie.Need-add-read-span
-add-read-span c = search needs
-
-sub-read-span : tie.Need-sub-read-span
-sub-read-span c = search needs
-
-part-read-span-start : tie.Need-part-read-span-start
-part-read-span-start c = search needs
-
-part-read-span-end : tie.Need-part-read-span-end
-part-read-span-end c = search needs
-
-read-span-requires : tie.Need-read-span-requires
-read-span-requires c κs = search needs
-
-returns-5 : tie.Need-returns-5
-returns-5 c =
-    let c5 = c .before .before .before .before .before in
-    let c10 = c5 .before .before .before .before .before in
-    let c15 = c10 .before .before .before .before .before in
-    let w = c15 .before .before .before .args .word in
-    let bs = c15 .before .before .before .args .rest .now in
-    let k = c15 .before .comma-from in
-    let m = c5 .before .before .before .comma-from2 in
-    let l = c10 .before .before .before .read-label in
-    let r = c5 .read-number in
-    let label = c10 .before .named .given in
-    let item = c .before .before .before .number .given in
-    change-span w bs (k .result) (k .ensures) (m .result) (m .ensures) (omega (arith, c15 .if1 .left))
-    (c .read-span .result)
-    (label .0 .0) (item .0 .0) (omega (arith, c5 .before .before .if2 .left))
+    let w = c5 .before .before .before .before .before .args .word in
+    let bs = c5 .before .before .before .before .before .args .rest .now in
+    let k = c5 .before .before .before .comma-from in
+    let l = c5 .read-label in
+    let label = c .before .before .before .named .given in
+    change-numbers w bs (k .result) (k .ensures) (c .read-numbers .result) (label .0 .0)
+    (omega (arith, c5 .before .before .if1 .left))
     (label-value (cutBefore (k .result) bs) (l .result) (label .0 .0) (l .ensures) (label .1))
-    (number-value (cutBefore (m .result) (cutAfter (k .result) bs)) (r .result) (item .0 .0) (r .ensures) (item .1))
-    (c .read-span .ensures)
+    (c .read-numbers .ensures)
 
 pub read-change-spec : {M : Type 1} → statement M
 read-change-spec =
@@ -153,22 +87,9 @@ read-change-spec =
     enum-known-named
     enum-told
     returns-2
-    add-after
-    sub-after
-    part-after-start
-    part-after-end
-    comma-from-requires-2
-    returns-3
-    sub-read-number
-    part-read-number-start
-    part-read-number-end
-    read-number-requires
-    enum-known-number
-    enum-told-2
-    returns-4
-    add-read-span
-    sub-read-span
-    part-read-span-start
-    part-read-span-end
-    read-span-requires
-    returns-5)
+    add-read-numbers
+    sub-read-numbers
+    part-read-numbers-start
+    part-read-numbers-end
+    read-numbers-requires
+    returns-3)

@@ -1,6 +1,5 @@
 -- `session::call` meets its contract: one call of the join for each word.
 -- Assumes nothing.
-use Rattle.checks.specs.Stores.{stores}
 use Rattle.session.proofs.Walls.{called-as}
 use borrow.Author.Needs.{needs}
 use Rattle.session.proofs.call.Statement.{statement}
@@ -43,11 +42,7 @@ returns : tie.Need-returns
 returns c =
     let k = c .before .before .before .before .before .before in
     let e = k .before .before .before .before in
-    let a = e .before .before .before .before .before .args in
-    let S = stores (a .outer .now) (a .inner .now) (a .rows .now) in
-    let l = k .insert .last .1 .1 .1 in
-    let S′ = stores (l .0) (l .1 .0) (l .1 .1 .0) in
-    called-as (a .word) _ (a .p) (a .t) S S′ (k .insert .result) (e .enum-told .given .1) (k .insert .ensures)
+    called-as _ _ _ _ _ _ _ (e .enum-told .given .1) (k .insert .ensures)
 
 same-length-4 : tie.Need-same-length-4
 same-length-4 c = search needs
@@ -62,11 +57,7 @@ returns-2 : tie.Need-returns-2
 returns-2 c =
     let k = c .before .before .before .before .before .before in
     let e = k .before .before .before .before in
-    let a = e .before .before .before .before .before .args in
-    let S = stores (a .outer .now) (a .inner .now) (a .rows .now) in
-    let l = k .delete .last .1 .1 .1 in
-    let S′ = stores (l .0) (l .1 .0) (l .1 .1 .0) in
-    called-as (a .word) _ (a .p) (a .t) S S′ (k .delete .result) (e .enum-told2 .given .1) (k .delete .ensures)
+    called-as _ _ _ _ _ _ _ (e .enum-told2 .given .1) (k .delete .ensures)
 
 same-length-7 : tie.Need-same-length-7
 same-length-7 c = search needs
@@ -81,11 +72,7 @@ returns-3 : tie.Need-returns-3
 returns-3 c =
     let k = c .before .before .before .before .before .before in
     let e = k .before .before .before .before in
-    let a = e .before .before .before .before .before .args in
-    let S = stores (a .outer .now) (a .inner .now) (a .rows .now) in
-    let l = k .insert2 .last .1 .1 .1 in
-    let S′ = stores (l .0) (l .1 .0) (l .1 .1 .0) in
-    called-as (a .word) _ (a .p) (a .t) S S′ (k .insert2 .result) (e .enum-told3 .given .1) (k .insert2 .ensures)
+    called-as _ _ _ _ _ _ _ (e .enum-told3 .given .1) (k .insert2 .ensures)
 
 same-length-10 : tie.Need-same-length-10
 same-length-10 c = search needs
@@ -100,11 +87,7 @@ returns-4 : tie.Need-returns-4
 returns-4 c =
     let k = c .before .before .before .before .before .before in
     let e = k .before .before .before .before in
-    let a = e .before .before .before .before .before .args in
-    let S = stores (a .outer .now) (a .inner .now) (a .rows .now) in
-    let l = k .delete2 .last .1 .1 .1 in
-    let S′ = stores (l .0) (l .1 .0) (l .1 .1 .0) in
-    called-as (a .word) _ (a .p) (a .t) S S′ (k .delete2 .result) (e .enum-told4 .given .1) (k .delete2 .ensures)
+    called-as _ _ _ _ _ _ _ (e .enum-told4 .given .1) (k .delete2 .ensures)
 
 pub call-spec : {M : Type 1} → statement M
 call-spec =

@@ -1,5 +1,5 @@
--- `report::text::put_partition` meets its contract. The loop's invariant is `Left`: the lines of the rows from place k on
--- are left to put. The measure is how many rows are left. Assumes nothing.
+-- `report::text::put_partition` meets its contract. The loop's invariant is `Left`: the lines of the rows from place k
+-- on are left to put. The measure is how many rows are left. Assumes nothing.
 use mathlib.Core.List.{_++_}
 use mathlib.Core.Path.{_≡_, sym, _∙_}
 use Prim.Native.Nat.{_+_, _-_, _<_}
@@ -25,7 +25,8 @@ next-line : (c : tie.After-row-at Inv-loop μ-loop)
     → (let at = c .before .before .before .loop in
     let a = c .before .before .before .before .before .before .before .args in
     Left (a .at) (partitionText (a .partition) (a .part .now)) (a .out .now) (at .next)
-    (rowLine (a .partition) (c .row-at .result) ++ gather (rowLine (a .partition)) (drop (at .k + 1) (rowsIn (a .part .now))))
+    (rowLine (a .partition) (c .row-at .result)
+    ++ gather (rowLine (a .partition)) (drop (at .k + 1) (rowsIn (a .part .now))))
     (at .out))
 next-line c =
     let at = c .before .before .before in
@@ -58,7 +59,8 @@ put-row-requires c κs =
     let at = c .before .before .before in
     let s = at .before .before .before .before in
     let a = s .args in
-    left-room (a .at) (partitionText (a .partition) (a .part .now)) (a .out .now) (s .pre .1) (at .loop .next) (at .loop .out)
+    left-room (a .at) (partitionText (a .partition) (a .part .now)) (a .out .now) (s .pre .1) (at .loop .next)
+    (at .loop .out)
     (rowLine (a .partition) (c .row-at .result)) _ (next-line c)
 
 add-k : tie.Need-add-k Inv-loop μ-loop
@@ -73,7 +75,8 @@ loop-again c =
     let at = row .before .before .before in
     let s = at .before .before .before .before in
     let a = s .args in
-    left-more (a .at) (partitionText (a .partition) (a .part .now)) (a .out .now) (s .pre .1) (at .loop .next) (at .loop .out)
+    left-more (a .at) (partitionText (a .partition) (a .part .now)) (a .out .now) (s .pre .1) (at .loop .next)
+    (at .loop .out)
     (rowLine (a .partition) (row .row-at .result)) _ _ _ (next-line row) (c .before .before .put-row .ensures)
 
 same-length : tie.Need-same-length Inv-loop μ-loop
@@ -88,7 +91,8 @@ returns c =
     let none =
     gather-end (rowLine (a .partition)) (rowsIn (a .part .now)) (at .loop .k)
     (omega (arith, length-rows (a .part .now), n .count .ensures, c .loop-test .left)) in
-    left-end (a .at) (partitionText (a .partition) (a .part .now)) (a .out .now) (s .pre .1) (at .loop .next) (at .loop .out)
+    left-end (a .at) (partitionText (a .partition) (a .part .now)) (a .out .now) (s .pre .1) (at .loop .next)
+    (at .loop .out)
     (rw none at (at .loop .inv))
 
 pub put-partition-spec : {M : Type 1} → statement M

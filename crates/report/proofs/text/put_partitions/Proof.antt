@@ -1,5 +1,5 @@
--- `report::text::put_partitions` meets its contract. The loop's invariant is `Left`: the lines of the lanes from lane i on
--- are left to put. The measure is how many lanes are left. Assumes nothing.
+-- `report::text::put_partitions` meets its contract. The loop's invariant is `Left`: the lines of the lanes from lane i
+-- on are left to put. The measure is how many lanes are left. Assumes nothing.
 use mathlib.Core.List.{List, _++_}
 use mathlib.Core.Path.{_≡_}
 use Prim.Native.Nat.{ℕ, _+_, _-_}
@@ -10,7 +10,8 @@ use Rattle.store.specs.Store.{rowPart}
 use Rattle.plan.proofs.Homes.{legal-plan}
 use Rattle.report.specs.Text.{partitionText, partitionsText}
 use Rattle.report.proofs.Partitions.{partition-inside, partition-room}
-use Rattle.report.proofs.Writing.{Left, left-start, left-room, left-more, left-end, partitions-next, partitions-none}
+use Rattle.report.proofs.Writing.{Left, left-start, left-room, left-more, left-end}
+use Rattle.report.proofs.Writing.{partitions-next, partitions-none}
 use Rattle.report.proofs.text.put_partitions.Statement.{statement}
 use Rattle.report.proofs.text.put_partitions.Tie as tie
 
@@ -32,8 +33,8 @@ next-partition : (c : tie.Then1 Inv-loop μ-loop)
 next-partition c =
     let at = c .before .before .loop in
     let a = c .before .before .before .before .before .before .args in
-    rw (partitions-next (λ i. partitionText (i + 1) (rowPart (a .p) (a .rows .now) i)) (a .p .count) (at .i) (c .if1 .taken))
-    at (at .inv)
+    let lines : ℕ → List ℕ = λ i. partitionText (i + 1) (rowPart (a .p) (a .rows .now) i) in
+    rw (partitions-next lines (a .p .count) (at .i) (c .if1 .taken)) at (at .inv)
 
 -- the part that is lent is lane i
 partition-is : (c : tie.After-partition Inv-loop μ-loop)
@@ -71,8 +72,8 @@ put-partition-requires c κs =
     let a = s .args in
     rw (partition-is c) (
       partition-room (a .p) (a .rows .now) (s .pre .0) (at .loop .i) (turn .if1 .taken),
-      left-room (a .at) (partitionsText (a .p) (a .rows .now)) (a .out .now) (s .pre .1) (at .loop .next) (at .loop .out)
-          (partitionText (at .loop .i + 1) (rowPart (a .p) (a .rows .now) (at .loop .i))) _ (next-partition turn),
+      left-room (a .at) (partitionsText (a .p) (a .rows .now)) (a .out .now) (s .pre .1) (at .loop .next)
+          (at .loop .out) (partitionText (at .loop .i + 1) (rowPart (a .p) (a .rows .now) (at .loop .i))) _ (next-partition turn),
     )
 
 add-i : tie.Need-add-i Inv-loop μ-loop
@@ -100,8 +101,8 @@ returns c =
     let at = c .before .before in
     let s = at .before .before .before .before in
     let a = s .args in
-    let none =
-    partitions-none (λ i. partitionText (i + 1) (rowPart (a .p) (a .rows .now) i)) (a .p .count) (at .loop .i) (c .if1 .left) in
+    let lines : ℕ → List ℕ = λ i. partitionText (i + 1) (rowPart (a .p) (a .rows .now) i) in
+    let none = partitions-none lines (a .p .count) (at .loop .i) (c .if1 .left) in
     left-end (a .at) (partitionsText (a .p) (a .rows .now)) (a .out .now) (s .pre .1) (at .loop .next) (at .loop .out)
     (rw none at (at .loop .inv))
 

@@ -54,7 +54,8 @@ count-left c = rw (c .count-rows .ensures) (word-put (c .before .before .before 
 
 count-put : (c : tie.After-put-number)
     → (let s = c .before .before .before .before .before .before .before .before .before .before in
-    TextLeft s (c .put-number .result) (partitionsText (s .args .p) (s .args .rows .now) ++ []) (c .put-number .last .0))
+    TextLeft s (c .put-number .result) (partitionsText (s .args .p) (s .args .rows .now) ++ [])
+    (c .put-number .last .0))
 count-put c =
     let w = c .before .before .before .before .before in
     let s = w .before .before .before .before .before in

@@ -49,100 +49,76 @@ first-start c = inner-start (c .before .before .before .before)
 
 -- before the first field, and after each but the last
 none-put : (s : tie.Start)
-    → LineLeft s (s .args .at) (ended (digitsOf (s .args .partition)) comma ++ afterPartition (s .args .row)) (s .args .out .now)
+    → LineLeft s (s .args .at) (ended (digitsOf (s .args .partition)) comma ++ afterPartition (s .args .row))
+    (s .args .out .now)
 none-put s =
     let a = s .args in
-    left-as (a .at) (rowLine (a .partition) (a .row)) (a .out .now) (a .at) (a .out .now) _ _ (row-fields (a .partition) (a .row))
-    (left-start (a .at) (rowLine (a .partition) (a .row)) (a .out .now))
+    let line = rowLine (a .partition) (a .row) in
+    left-as (a .at) line (a .out .now) (a .at) (a .out .now) _ _ (row-fields (a .partition) (a .row))
+    (left-start (a .at) line (a .out .now))
 
 partition-put : (c : tie.After-put-number)
-    → LineLeft (partition-start c) (c .put-number .result) (afterPartition (partition-start c .args .row)) (c .put-number .last .0)
-partition-put c =
-    let s = partition-start c in
-    let a = s .args in
-    more s (a .at) (ended (digitsOf (a .partition)) comma) (afterPartition (a .row)) (a .out .now) _ _ (none-put s)
-    (c .put-number .ensures)
+    → LineLeft (partition-start c) (c .put-number .result) (afterPartition (partition-start c .args .row))
+    (c .put-number .last .0)
+partition-put c = let s = partition-start c in more s _ _ _ _ _ _ (none-put s) (c .put-number .ensures)
 
 label-put : (c : tie.After-put-label)
     → LineLeft (label-start c) (c .put-label .result) (afterLabel (label-start c .args .row)) (c .put-label .last .0)
 label-put c =
-    let s = label-start c in
-    let a = s .args in
-    let b = c .before .before .before .before in
-    more s (b .put-number .result) (ended (lettersOf (a .row .label)) comma) (afterLabel (a .row))
-    (b .put-number .last .0) _ _ (partition-put b) (c .put-label .ensures)
+    more (label-start c) _ _ _ _ _ _ (partition-put (c .before .before .before .before)) (c .put-label .ensures)
 
 outer-put : (c : tie.After-put-number2)
     → LineLeft (outer-start c) (c .put-number2 .result) (afterOuter (outer-start c .args .row))
     (c .put-number2 .last .0)
 outer-put c =
-    let s = outer-start c in
-    let a = s .args in
-    let b = c .before .before .before .before in
-    more s (b .put-label .result) (ended (digitsOf (a .row .outer)) comma) (afterOuter (a .row))
-    (b .put-label .last .0) _ _ (label-put b) (c .put-number2 .ensures)
+    more (outer-start c) _ _ _ _ _ _ (label-put (c .before .before .before .before)) (c .put-number2 .ensures)
 
 inner-put : (c : tie.After-put-number3)
     → LineLeft (inner-start c) (c .put-number3 .result) (afterInner (inner-start c .args .row))
     (c .put-number3 .last .0)
 inner-put c =
-    let s = inner-start c in
-    let a = s .args in
-    let b = c .before .before .before .before in
-    more s (b .put-number2 .result) (ended (digitsOf (a .row .inner)) comma) (afterInner (a .row))
-    (b .put-number2 .last .0) _ _ (outer-put b) (c .put-number3 .ensures)
+    more (inner-start c) _ _ _ _ _ _ (outer-put (c .before .before .before .before)) (c .put-number3 .ensures)
 
 first-put : (c : tie.After-put-number4)
     → LineLeft (first-start c) (c .put-number4 .result) (afterFirst (first-start c .args .row))
     (c .put-number4 .last .0)
 first-put c =
-    let s = first-start c in
-    let a = s .args in
-    let b = c .before .before .before .before in
-    more s (b .put-number3 .result) (ended (digitsOf (a .row .valid .first .0)) comma) (afterFirst (a .row))
-    (b .put-number3 .last .0) _ _ (inner-put b) (c .put-number4 .ensures)
+    more (first-start c) _ _ _ _ _ _ (inner-put (c .before .before .before .before)) (c .put-number4 .ensures)
 
 put-number-requires : tie.Need-put-number-requires
 put-number-requires c κs =
     let s = c .before .before in
-    let a = s .args in
-    room s (a .at) (ended (digitsOf (a .partition)) comma) (afterPartition (a .row)) (a .out .now) (none-put s)
+    room s _ (ended (digitsOf (s .args .partition)) comma) (afterPartition (s .args .row)) _ (none-put s)
 
 put-label-requires : tie.Need-put-label-requires
 put-label-requires c κs =
     let b = c .before .before .before in
-    let a = partition-start b .args in
-    room (partition-start b) (b .put-number .result) (ended (lettersOf (a .row .label)) comma) (afterLabel (a .row))
-    (b .put-number .last .0) (partition-put b)
+    let s = partition-start b in
+    room s _ (ended (lettersOf (s .args .row .label)) comma) (afterLabel (s .args .row)) _ (partition-put b)
 
 put-number-requires-2 : tie.Need-put-number-requires-2
 put-number-requires-2 c κs =
     let b = c .before .before .before in
-    let a = label-start b .args in
-    room (label-start b) (b .put-label .result) (ended (digitsOf (a .row .outer)) comma) (afterOuter (a .row))
-    (b .put-label .last .0) (label-put b)
+    let s = label-start b in
+    room s _ (ended (digitsOf (s .args .row .outer)) comma) (afterOuter (s .args .row)) _ (label-put b)
 
 put-number-requires-3 : tie.Need-put-number-requires-3
 put-number-requires-3 c κs =
     let b = c .before .before .before in
-    let a = outer-start b .args in
-    room (outer-start b) (b .put-number2 .result) (ended (digitsOf (a .row .inner)) comma) (afterInner (a .row))
-    (b .put-number2 .last .0) (outer-put b)
+    let s = outer-start b in
+    room s _ (ended (digitsOf (s .args .row .inner)) comma) (afterInner (s .args .row)) _ (outer-put b)
 
 put-number-requires-4 : tie.Need-put-number-requires-4
 put-number-requires-4 c κs =
     let b = c .before .before .before in
-    let a = inner-start b .args in
-    room (inner-start b) (b .put-number3 .result) (ended (digitsOf (a .row .valid .first .0)) comma)
-    (afterFirst (a .row))
-    (b .put-number3 .last .0) (inner-put b)
+    let s = inner-start b in
+    room s _ (ended (digitsOf (s .args .row .valid .first .0)) comma) (afterFirst (s .args .row)) _ (inner-put b)
 
 put-number-requires-5 : tie.Need-put-number-requires-5
 put-number-requires-5 c κs =
     let b = c .before .before .before in
-    let a = first-start b .args in
-    room (first-start b) (b .put-number4 .result) (ended (digitsOf (a .row .valid .last .0)) lineEnd) []
-    (b .put-number4 .last .0) (first-put b)
+    let s = first-start b in
+    room s _ (ended (digitsOf (s .args .row .valid .last .0)) lineEnd) [] _ (first-put b)
 
 same-length : tie.Need-same-length
 same-length c = search needs

@@ -1,5 +1,5 @@
--- `wall::input::take_part` meets its contract. The loop's invariant: the place is within the part, what is kept fits the
--- line's bytes, and the lent slices stay as long as they were. The measure is what is left of the part.
+-- `wall::input::take_part` meets its contract. The loop's invariant: the place is within the part, what is kept fits
+-- the line's bytes, and the lent slices stay as long as they were. The measure is what is left of the part.
 -- Assumes nothing.
 use mathlib.Core.Path.{_≡_}
 use Prim.Native.Nat.{_≤_, _-_}
