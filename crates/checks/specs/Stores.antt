@@ -61,8 +61,8 @@ storeNumber p s =
     (openNumber p s
     ∷ (tuplesUnsound p (s .outer) ∷ (tuplesUnsound p (s .inner) ∷ (rowsUnsound p (s .rows) ∷ []))))
 
-unfoldable pub changeNumber : Partitioning → Tuple → Stores → ℕ
-changeNumber p t s = firstOf (storeNumber p s ∷ (tupleNumber t ∷ []))
+unfoldable pub givenNumber : Partitioning → Tuple → Stores → ℕ
+givenNumber p t s = firstOf (storeNumber p s ∷ (tupleNumber t ∷ []))
 
 -- an answer of that number, with "both 0": the two counts
 abbrev pub Says : Answer → ℕ → Type 0

@@ -6,7 +6,7 @@ ghost use lib.ListN.{length};
 ghost use Rattle.plan.specs.Plan.{planNumber};
 ghost use Rattle.store.specs.Store.{fitsTuples, fitsRows};
 ghost use Rattle.checks.specs.Stores.{tuplesLength, rowsLength, tuplesUnsound, rowsUnsound};
-ghost use Rattle.checks.specs.Stores.{stores, lengthsNumber, storeNumber, changeNumber, Says, Counts};
+ghost use Rattle.checks.specs.Stores.{stores, lengthsNumber, storeNumber, givenNumber, Says, Counts};
 use interval::tuple::Tuple;
 use plan::Partitioning;
 
@@ -118,8 +118,8 @@ pub fn store_number(p: Partitioning, outer: &[u64], inner: &[u64], rows: &[u64])
 }
 
 // Checks 1 to 8 of a change: those of plan and stores, then those of its tuple.
-pub fn change_number(p: Partitioning, t: Tuple, outer: &[u64], inner: &[u64], rows: &[u64]) -> u64
-    ensures { λ r. ⌜ r ≡ changeNumber p t (stores (now (outer .entry)) (now (inner .entry)) (now (rows .entry))) ⌝ }
+pub fn given_number(p: Partitioning, t: Tuple, outer: &[u64], inner: &[u64], rows: &[u64]) -> u64
+    ensures { λ r. ⌜ r ≡ givenNumber p t (stores (now (outer .entry)) (now (inner .entry)) (now (rows .entry))) ⌝ }
 {
     let number = store_number(p, outer, inner, rows);
     if number != 0 {

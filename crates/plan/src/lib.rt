@@ -18,16 +18,6 @@ pub const MOST_ROWS: u64 = 4_096;
 // The places that a plan has for last minutes.
 pub const PLACES: usize = MOST_PARTITIONS as usize;
 
-// The most lanes, tuples in a lane and rows in a lane that a legal plan has.
-pub const MOST_PARTITIONS: u64 = 64;
-
-pub const MOST_TUPLES: u64 = 512;
-
-pub const MOST_ROWS: u64 = 4_096;
-
-// The places that a plan has for last minutes.
-pub const PLACES: usize = MOST_PARTITIONS as usize;
-
 // A lane number of document 01, counted from 0. It is no Chronon: one handed over where the other belongs does not compile.
 pub struct PartitionIndex(pub u64);
 
