@@ -20,50 +20,53 @@ STOPS_AFTER = 60        # seconds
 # (file, what stands there once, what is put in its place)
 EDITS = [
     # the row rule
-    ('rows/lib.rt', 'if outer.label != inner.label {', 'if false {'),
+    ('rows/lib.rt', 'if !interval::tuple::same_label(outer, inner) {', 'if false {'),
     ('rows/lib.rt', 'outer: outer.item,', 'outer: inner.item,'),
     ('rows/lib.rt', 'Side::Inner => join_pair(u, t),', 'Side::Inner => join_pair(t, u),'),
     ('interval/time.rt', 'if last.0 < first.0 {', 'if last.0 <= first.0 {'),
     ('interval/time.rt', 'if a.0 < b.0 { b } else { a }', 'if a.0 < b.0 { a } else { b }'),
     ('interval/time.rt', 'if b.0 < a.0 { b } else { a }', 'a'),
     # which lanes are looked at, and which lane a row goes to
-    ('rows/add.rt', 'while j < count {', 'while j <= at {'),
-    ('rows/add.rt', 'if j < at {\n            i = j;', 'if j < at {\n            i = at;'),
-    ('rows/add.rt', 'let mut i = at;', 'let mut i = j;'),
-    ('rows/add.rt', 'let mut j = low;', 'let mut j = at;'),
+    ('rows/add.rt', 'while j < site.count {', 'while j <= site.at.0 {'),
+    ('rows/add.rt', 'if j < site.at.0 {\n            i = j;', 'if j < site.at.0 {\n            i = site.at.0;'),
+    ('rows/add.rt', 'let mut i = site.at.0;', 'let mut i = j;'),
+    ('rows/add.rt', 'let mut j = site.low.0;', 'let mut j = site.at.0;'),
     ('rows/add.rt', 'let mut k: usize = 0;', 'let mut k: usize = 1;'),
     ('rows/count.rt', 'tuples += part::count(', 'tuples += 0 * part::count('),
-    ('rows/count.rt', 'if capacity < held + more {', 'if capacity <= held + more {'),
-    ('rows/count.rt', 'if capacity < held + more {', 'if capacity < more {'),
-    ('rows/count.rt', 'while i <= at {', 'while i < at {'),
-    ('rows/count.rt', 'let mut i = low;', 'let mut i = at;'),
-    ('rows/count.rt', 'matches_from(side, t, other, room, at, count)', 'matches_from(side, t, other, room, 0, count)'),
+    ('rows/count.rt', 'if site.rows.capacity < held + more {', 'if site.rows.capacity <= held + more {'),
+    ('rows/count.rt', 'if site.rows.capacity < held + more {', 'if site.rows.capacity < more {'),
+    ('rows/count.rt', 'while i <= site.at.0 {', 'while i < site.at.0 {'),
+    ('rows/count.rt', 'let mut i = site.low.0;', 'let mut i = site.at.0;'),
+    (
+        'rows/count.rt',
+        'matches_from(side, t, other, site.tuples.words, site.at, site.count)',
+        'matches_from(side, t, other, site.tuples.words, PartitionIndex(0), site.count)',
+    ),
     (
         'rows/add.rt',
-        '            i,\n        );\n        j += 1;',
-        '            i,\n        );\n        if j == at {\n'
-        '            add_from(side, t, store::partition(other, room, PartitionIndex(j)), rows, size, i);\n'
-        '        }\n        j += 1;',
+        'added += add_part(side, t, part, rows, site.rows.words, PartitionIndex(i));',
+        'added += add_part(side, t, part, rows, site.rows.words, PartitionIndex(i));\n'
+        '        if j == site.at.0 {\n'
+        '            add_from(side, t, part, rows, site.rows.words, PartitionIndex(i));\n'
+        '        }',
     ),
+    ('rows/add.rt', 'let mut added: u64 = 0;', 'let mut added: u64 = 1;'),
     # what is taken out
     ('removal/lib.rt', 'if stands < goes {', 'if stands < 1 {'),
     ('removal/lib.rt', 'if stands < goes {', 'if stands <= goes {'),
     ('removal/lib.rt', 'if stands < goes {', 'if false {'),
-    ('removal/lib.rt', 'store::remove(rows, ROW_WIDTH, size, PartitionIndex(i), place);', ''),
+    ('removal/lib.rt', 'store::remove(rows, ROW_WIDTH, room, i, place);', ''),
     (
         'removal/lib.rt',
-        'store::remove(rows, ROW_WIDTH, size, PartitionIndex(i), place);',
+        'store::remove(rows, ROW_WIDTH, room, i, place);',
         'let mut place = place;\n'
-        'while (place as u64) < part::count(store::partition(rows, size, PartitionIndex(i))) {\n'
-        'store::remove(rows, ROW_WIDTH, size, PartitionIndex(i), place);\n'
-        'place = part::place_of_row(store::partition(rows, size, PartitionIndex(i)), row);\n'
+        'while (place as u64) < part::count(store::partition(rows, room, i)) {\n'
+        'store::remove(rows, ROW_WIDTH, room, i, place);\n'
+        'place = part::place_of_row(store::partition(rows, room, i), row);\n'
         '}',
     ),
-    (
-        'removal/lib.rt',
-        'store::remove(rows, ROW_WIDTH, size, PartitionIndex(i), place);',
-        'store::remove(rows, ROW_WIDTH, size, PartitionIndex(i), 0);',
-    ),
+    ('removal/lib.rt', 'store::remove(rows, ROW_WIDTH, room, i, place);', 'store::remove(rows, ROW_WIDTH, room, i, 0);'),
+    ('removal/lib.rt', 'let mut taken: u64 = 0;', 'let mut taken: u64 = 1;'),
     # one lane
     ('part/lib.rt', 'copy(part, width, last, k);', 'copy(part, width, last, 0);'),
     ('part/lib.rt', 'clear(&mut part[at..end]);', ''),
@@ -98,32 +101,35 @@ EDITS = [
     # the calls: what they do
     (
         'insertion/lib.rt',
-        'if full != 0 {\n        return checks::refused(full);\n    }\n    insert_rows(',
-        'if true {\n        return checks::refused(full);\n    }\n    insert_rows(',
+        'if number != 0 {\n        return checks::refused(number);',
+        'if true {\n        return checks::refused(number);',
     ),
     (
         'deletion/lib.rt',
-        'if missing != 0 {',
-        'if true {',
+        'if number != 0 {\n        return checks::refused(number);',
+        'if true {\n        return checks::refused(number);',
     ),
-    ('insertion/lib.rt', 'store::append_tuple(own, room, at, t);', ''),
-    ('insertion/lib.rt', 'store::append_tuple(own, room, at, t);', 'store::append_tuple(own, room, low, t);'),
-    ('insertion/lib.rt', 'rows::add::add_rows(side, t, other, room, p.count, low.0, at.0, rows, size);', ''),
+    ('insertion/lib.rt', 'store::append_tuple(own, site.tuples.words, site.at, t);', ''),
     (
         'insertion/lib.rt',
-        'rows::add::add_rows(side, t, other, room, p.count, low.0, at.0, rows, size);',
-        'rows::add::add_rows(side, t, other, room, p.count, at.0, at.0, rows, size);',
+        'store::append_tuple(own, site.tuples.words, site.at, t);',
+        'store::append_tuple(own, site.tuples.words, site.low, t);',
+    ),
+    (
+        'insertion/lib.rt',
+        'let changed = rows::add::add_rows(side, t, other, site, rows);',
+        'let changed = rows::count::matches_from(side, t, other, site.tuples.words, site.low, site.count);',
+    ),
+    ('rows/lib.rt', 'let low = plan::home(p, t.valid.first);', 'let low = plan::home(p, t.valid.last);'),
+    (
+        'deletion/lib.rt',
+        'store::remove(own, TUPLE_WIDTH, site.tuples.words, site.at, place);',
+        'store::remove(own, TUPLE_WIDTH, site.tuples.words, site.at, 0);',
     ),
     (
         'deletion/lib.rt',
-        'store::remove(own, TUPLE_WIDTH, room, at, place);',
-        'store::remove(own, TUPLE_WIDTH, room, at, 0);',
-    ),
-    ('deletion/lib.rt', 'removal::take_rows(side, t, other, room, p.count, low.0, at.0, rows, size);', ''),
-    (
-        'deletion/lib.rt',
-        'removal::take_rows(side, t, other, room, p.count, low.0, at.0, rows, size);',
-        'removal::take_rows(side, t, other, room, p.count, at.0, at.0, rows, size);',
+        'let changed = removal::take_rows(side, t, other, site, rows);',
+        'let changed = rows::count::matches_from(side, t, other, site.tuples.words, site.low, site.count);',
     ),
     (
         'join/lib.rt',
@@ -211,64 +217,63 @@ EDITS = [
     # the calls: a refusal that writes, and rows that are put in another order in lanes that are not concerned
     (
         'insertion/lib.rt',
-        'if full != 0 {\n        return checks::refused(full);\n    }\n    insert_rows(',
-        'if full != 0 {\n        if full == 10 {\n            store::append_tuple(own, '
-        'store::tuple_room(p), plan::home(p, t.valid.last), t);\n        }\n'
-        '        return checks::refused(full);\n    }\n    insert_rows(',
+        'if number != 0 {\n        return checks::refused(number);',
+        'if number != 0 {\n        if number == 10 {\n            append_tuple(p, t, site, own);\n        }\n'
+        '        return checks::refused(number);',
     ),
     (
         'insertion/lib.rt',
-        'store::append_tuple(own, room, at, t);',
-        'store::append_tuple(own, room, at, t);\n'
-        'if rows[0] > 1 && at.0 > 0 && low.0 > 0 {\n    for f in 1..6 {\n        rows.swap(f, f + 5);\n    }\n}',
+        'let changed = rows::add::add_rows(side, t, other, site, rows);',
+        'let changed = rows::add::add_rows(side, t, other, site, rows);\n'
+        'if rows[0] > 1 && site.at.0 > 0 && site.low.0 > 0 {\n    for f in 1..6 {\n        rows.swap(f, f + 5);\n    }\n}',
     ),
     # the calls: their counts
     ('checks/lib.rt', 'changed: 0,', 'changed: number,'),
     (
         'insertion/lib.rt',
-        'let changed = rows::count::matches_from(side, t, other, room, low.0, p.count);',
-        'let changed = rows::count::matches_from(side, t, other, room, at.0, p.count);',
+        'let changed = rows::add::add_rows(side, t, other, site, rows);',
+        'let changed = rows::count::matches_from(side, t, other, site.tuples.words, site.at, site.count);\n'
+        'rows::add::add_rows(side, t, other, site, rows);',
     ),
     (
         'insertion/lib.rt',
-        'let examined = rows::count::examined_from(other, room, low.0, p.count);',
-        'let examined = rows::count::examined_from(other, room, at.0, p.count);',
+        'let examined = rows::count::examined_from(other, site.tuples.words, site.low, site.count);',
+        'let examined = rows::count::examined_from(other, site.tuples.words, site.at, site.count);',
     ),
     (
         'deletion/lib.rt',
-        'let looked = rows::count::examined_from(other, room, low.0, p.count);',
-        'let looked = rows::count::examined_from(other, room, 0, p.count);',
+        'let examined = rows::count::examined_from(other, site.tuples.words, site.low, site.count);',
+        'let examined = rows::count::examined_from(other, site.tuples.words, plan::PartitionIndex(0), site.count);',
     ),
-    ('deletion/lib.rt', 'changed: removed,', 'changed: 0,'),
+    ('deletion/lib.rt', '        changed,', '        changed: 0,'),
     # the calls: their numbers, and which check comes first
-    ('insertion/lib.rt', 'if p.tuples <= held {', 'if p.tuples < held + 2 {'),
+    ('insertion/lib.rt', 'if site.tuples.capacity <= held {', 'if site.tuples.capacity < held + 2 {'),
     ('insertion/lib.rt', '        return 9;', '        return 10;'),
     ('deletion/lib.rt', '        return 11;', '        return 12;'),
     (
         'deletion/lib.rt',
-        'if held <= part::place_of_tuple(lane, t) {\n        return 11;\n    }\n'
-        '    if removal::lacking(side, t, other, room, p.count, low.0, at.0, rows, size) {\n'
-        '        return 12;\n    }\n',
-        'if removal::lacking(side, t, other, room, p.count, low.0, at.0, rows, size) {\n        return 12;\n    }\n'
-        '    if held <= part::place_of_tuple(lane, t) {\n        return 11;\n    }\n',
+        'let number = missing_check(p, t, site, own);\n    if number != 0 {\n        return number;\n    }\n'
+        '    lacking_check(p, side, t, site, other, rows)',
+        'let number = lacking_check(p, side, t, site, other, rows);\n    if number != 0 {\n        return number;\n    }\n'
+        '    missing_check(p, t, site, own)',
     ),
     (
         'insertion/lib.rt',
-        'if p.tuples <= held {',
-        'if p.tuples <= held && !rows::count::overfull(\n'
-        '        side, t, other, room, p.count, low.0, at.0, rows, size, p.rows,\n    ) {',
+        'let number = full_check(p, t, site, own);\n    if number != 0 {\n        return number;\n    }\n'
+        '    overfull_check(p, side, t, site, other, rows)',
+        'let number = overfull_check(p, side, t, site, other, rows);\n    if number != 0 {\n        return number;\n    }\n'
+        '    full_check(p, t, site, own)',
     ),
     (
         'join/lib.rt',
         'let number = checks::store_number(p, outer, inner, rows);',
-        'let early = interval::tuple::tuple_number(t);\n    if early != 0 {\n'
-        '        return checks::refused(early);\n    }\n'
+        'let early = interval::tuple::tuple_number(t);\n    if early != 0 {\n        return early;\n    }\n'
         '    let number = checks::store_number(p, outer, inner, rows);',
     ),
     (
         'join/lib.rt',
-        'let unsound = checks::store_number(p, outer, inner, rows);',
-        'let unsound = checks::lengths_number(p, outer.len(), inner.len(), rows.len());',
+        'let number = checks::store_number(p, outer, inner, rows);',
+        'let number = checks::lengths_number(p, outer.len(), inner.len(), rows.len());',
     ),
     ('checks/lib.rt', 'if !store::fits_tuples(p, inner) {', 'if false {'),
     ('checks/lib.rt', 'if !soundness::sound_tuples(p, inner) {', 'if false {'),
@@ -323,7 +328,7 @@ def crates():
 # One file as Rust, a module of the one crate that all become.
 def as_rust(text, crate, names):
     text = re.sub(r'(?m)^\s*ghost use\b.*\n', '', text)
-    text = re.sub(r'(?ms)^\s*(requires|ensures)\b.*?⌝ \}\n', '', text)
+    text = re.sub(r'(?m)^\s*(requires|ensures)\b[^⌝]*⌝ \}\n', '', text)
     text = re.sub(r'(?m)^((pub(\(crate\))? )?(struct|enum) )', r'#[derive(Clone, Copy)]\n\1', text)
     text = re.sub(r'\bcrate::', f'crate::{crate}::', text)
     text = re.sub(r'(?<![\w:])(' + '|'.join(names) + r')::', r'crate::\1::', text)

@@ -8,7 +8,7 @@ use lib.ListN.{length, replicate}
 use Rattle.lists.specs.Members.{gather, without, below}
 use Rattle.interval.specs.Time.{span, overlap}
 use Rattle.interval.specs.Label.{rank, labelNumber}
-use Rattle.interval.specs.Tuple.{tuple, sameInterval, sameTuple, rowWords}
+use Rattle.interval.specs.Tuple.{tuple, sameLabel, sameInterval, sameTuple, rowWords}
 use Rattle.interval.specs.declared.time.Interval.{Interval}
 use Rattle.interval.specs.declared.tuple.Tuple.{Tuple}
 use Rattle.interval.specs.declared.tuple.Row.{Row}
@@ -115,5 +115,5 @@ table =
 
 -- all ten: what is computed is what is stated
 pub ten-cases : map (λ (c : Case). c .computed) table ≡ map (λ (c : Case). c .stated) table
-unfolding labelNumber rank overlap sameInterval sameTuple rowsOfPair joinOf pairsOf joined meet storedTuples rowsAt home homeOf cutsOf startOf counted recordsIn tuplesIn appended
+unfolding labelNumber rank overlap sameLabel sameInterval sameTuple rowsOfPair joinOf pairsOf joined meet storedTuples rowsAt home homeOf cutsOf startOf counted recordsIn tuplesIn appended
 ten-cases = refl

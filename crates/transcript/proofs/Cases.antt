@@ -10,7 +10,7 @@ use Prim.Native.String.{String, [] as []ₛ, _∷_ as _∷ₛ_}
 use lib.ListN.{length, replicate}
 use Rattle.interval.specs.Time.{overlap}
 use Rattle.interval.specs.Label.{rank, isLetter, isLabel, labelNumber, lettersOf}
-use Rattle.interval.specs.Tuple.{tuple, sameInterval, sameTuple}
+use Rattle.interval.specs.Tuple.{tuple, sameLabel, sameInterval, sameTuple}
 use Rattle.interval.specs.declared.tuple.Tuple.{Tuple}
 use Rattle.plan.specs.Plan.{cutsOf, homeOf, home}
 use Rattle.plan.specs.declared.Partitioning.{Partitioning}
@@ -92,7 +92,7 @@ output =
     ++ bytes "3,AL,11,2,41,48\n"
 
 example-printed : printedRows three (joinOf drawings spots) ≡ output
-unfolding printedRows laneLines sortRows putRow before rowLine countLine digitsOf lettersOf overlap rowsOfPair joinOf rowsAt home homeOf cutsOf
+unfolding printedRows laneLines sortRows putRow before rowLine countLine digitsOf lettersOf overlap sameLabel rowsOfPair joinOf rowsAt home homeOf cutsOf
 example-printed = refl
 
 -- ---- refused lines
