@@ -2,7 +2,7 @@
 -- of checks says.
 -- Assumes nothing.
 use mathlib.Core.Bool.{Bool, true, false, not, _&&_}
-use mathlib.Core.List.{[], _∷_}
+use mathlib.Core.List.{List, [], _∷_}
 use mathlib.Core.Path.{_≡_, refl, sym, ap, _∙_}
 use Prim.Native.Nat.{ℕ, suc}
 use lib.ListN.{length}
@@ -43,7 +43,7 @@ pub all-hold : (a b c : Bool) → a ≡ true → b ≡ true → c ≡ true → (
 all-hold a b c d e f = rw (d, e, f)
 
 -- a check that gave 0
-pub check-passed : (b : Bool) (n : ℕ) → refuseIf (not b) (suc n) ≡ 0 → b ≡ true
+check-passed : (b : Bool) (n : ℕ) → refuseIf (not b) (suc n) ≡ 0 → b ≡ true
 check-passed b n e = not-false b (refuse-none (not b) n e)
 
 -- three checks of one number are one check of three tests
@@ -70,6 +70,41 @@ stores-are p s =
     ap (orElse (openNumber p s))
     (three-checks 4 (soundTuples p (s .outer)) (soundTuples p (s .inner)) (soundRows p (s .rows)))
 
+-- checks 4 and 5 of one store: 0 exactly if its length fits, if it is sound
+module _ (p : Partitioning) (n : ℕ) where
+  pub tuples-fit : tuplesLength p n ≡ 0 → fitsTuples p n ≡ true
+  unfolding tuplesLength
+  tuples-fit e = check-passed (fitsTuples p n) 3 e
+
+  pub fit-tuples : fitsTuples p n ≡ true → tuplesLength p n ≡ 0
+  unfolding tuplesLength
+  fit-tuples h = rw h
+
+  pub rows-fit : rowsLength p n ≡ 0 → fitsRows p n ≡ true
+  unfolding rowsLength
+  rows-fit e = check-passed (fitsRows p n) 3 e
+
+  pub fit-rows : fitsRows p n ≡ true → rowsLength p n ≡ 0
+  unfolding rowsLength
+  fit-rows h = rw h
+
+module _ (p : Partitioning) (ws : List ℕ) where
+  pub tuples-sound : tuplesUnsound p ws ≡ 0 → soundTuples p ws ≡ true
+  unfolding tuplesUnsound
+  tuples-sound e = check-passed (soundTuples p ws) 4 e
+
+  pub sound-tuples : soundTuples p ws ≡ true → tuplesUnsound p ws ≡ 0
+  unfolding tuplesUnsound
+  sound-tuples h = rw h
+
+  pub rows-sound : rowsUnsound p ws ≡ 0 → soundRows p ws ≡ true
+  unfolding rowsUnsound
+  rows-sound e = check-passed (soundRows p ws) 4 e
+
+  pub sound-rows : soundRows p ws ≡ true → rowsUnsound p ws ≡ 0
+  unfolding rowsUnsound
+  sound-rows h = rw h
+
 -- what checks 1 to 4 say where they pass
 pub record Fitting (p : Partitioning) (o i r : ℕ) : Type 0 where
   pub legal : planNumber p ≡ 0
@@ -78,17 +113,17 @@ pub record Fitting (p : Partitioning) (o i r : ℕ) : Type 0 where
   pub rows : fitsRows p r ≡ true
 
 pub fitting : (p : Partitioning) (outer inner rows : ℕ) → lengthsNumber p outer inner rows ≡ 0 → Fitting p outer inner rows
-unfolding lengthsNumber tuplesLength rowsLength
+unfolding lengthsNumber
 fitting p outer inner rows e =
     let a = first-none (planNumber p) _ e in
-    let o = first-none (refuseIf (not (fitsTuples p outer)) 4) _ (a .1) in
-    let i = first-none (refuseIf (not (fitsTuples p inner)) 4) _ (o .1) in
-    let r = first-none (refuseIf (not (fitsRows p rows)) 4) [] (i .1) in
+    let o = first-none (tuplesLength p outer) _ (a .1) in
+    let i = first-none (tuplesLength p inner) _ (o .1) in
+    let r = first-none (rowsLength p rows) [] (i .1) in
     record {
       legal = a .0;
-      outer = check-passed (fitsTuples p outer) 3 (o .0);
-      inner = check-passed (fitsTuples p inner) 3 (i .0);
-      rows = check-passed (fitsRows p rows) 3 (r .0);
+      outer = tuples-fit p outer (o .0);
+      inner = tuples-fit p inner (i .0);
+      rows = rows-fit p rows (r .0);
     }
 
 -- and checks 1 to 5
@@ -99,15 +134,15 @@ pub record Ready (p : Partitioning) (s : Stores) : Type 0 where
   pub rows : soundRows p (s .rows) ≡ true
 
 pub ready : (p : Partitioning) (s : Stores) → storeNumber p s ≡ 0 → Ready p s
-unfolding storeNumber tuplesUnsound rowsUnsound
+unfolding storeNumber
 ready p s e =
     let a = first-none (openNumber p s) _ e in
-    let o = first-none (refuseIf (not (soundTuples p (s .outer))) 5) _ (a .1) in
-    let i = first-none (refuseIf (not (soundTuples p (s .inner))) 5) _ (o .1) in
-    let r = first-none (refuseIf (not (soundRows p (s .rows))) 5) [] (i .1) in
+    let o = first-none (tuplesUnsound p (s .outer)) _ (a .1) in
+    let i = first-none (tuplesUnsound p (s .inner)) _ (o .1) in
+    let r = first-none (rowsUnsound p (s .rows)) [] (i .1) in
     record {
       fits = fitting p (length (s .outer)) (length (s .inner)) (length (s .rows)) (a .0);
-      outer = check-passed (soundTuples p (s .outer)) 4 (o .0);
-      inner = check-passed (soundTuples p (s .inner)) 4 (i .0);
-      rows = check-passed (soundRows p (s .rows)) 4 (r .0);
+      outer = tuples-sound p (s .outer) (o .0);
+      inner = tuples-sound p (s .inner) (i .0);
+      rows = rows-sound p (s .rows) (r .0);
     }

@@ -56,27 +56,19 @@ pub fn rows_length(p: Partitioning, len: usize) -> u64
 }
 
 // Check 5 of a tuple store that passed check 4: 5, or 0 if it is sound.
-pub fn tuples_unsound(p: Partitioning, store: &[u64]) -> u64
-    requires { ⌜ fitsTuples p (length (now store)) ≡ true ⌝ }
-    ensures { λ r. ⌜ r ≡ tuplesUnsound p (now (store .entry)) ⌝ }
+pub fn tuples_unsound(p: Partitioning, ws: &[u64]) -> u64
+    requires { ⌜ fitsTuples p (length (now ws)) ≡ true ⌝ }
+    ensures { λ r. ⌜ r ≡ tuplesUnsound p (now (ws .entry)) ⌝ }
 {
-    if soundness::sound_tuples(p, store) {
-        0
-    } else {
-        5
-    }
+    if soundness::sound_tuples(p, ws) { 0 } else { 5 }
 }
 
 // Check 5 of the rows store.
-pub fn rows_unsound(p: Partitioning, store: &[u64]) -> u64
-    requires { ⌜ fitsRows p (length (now store)) ≡ true ⌝ }
-    ensures { λ r. ⌜ r ≡ rowsUnsound p (now (store .entry)) ⌝ }
+pub fn rows_unsound(p: Partitioning, ws: &[u64]) -> u64
+    requires { ⌜ fitsRows p (length (now ws)) ≡ true ⌝ }
+    ensures { λ r. ⌜ r ≡ rowsUnsound p (now (ws .entry)) ⌝ }
 {
-    if soundness::sound_rows(p, store) {
-        0
-    } else {
-        5
-    }
+    if soundness::sound_rows(p, ws) { 0 } else { 5 }
 }
 
 // Checks 1 to 4, for stores of these lengths.
@@ -106,13 +98,13 @@ pub fn store_number(p: Partitioning, outer: &[u64], inner: &[u64], rows: &[u64])
     if number != 0 {
         return number;
     }
-    let first = tuples_unsound(p, outer);
-    if first != 0 {
-        return first;
+    let outer_unsound = tuples_unsound(p, outer);
+    if outer_unsound != 0 {
+        return outer_unsound;
     }
-    let second = tuples_unsound(p, inner);
-    if second != 0 {
-        return second;
+    let inner_unsound = tuples_unsound(p, inner);
+    if inner_unsound != 0 {
+        return inner_unsound;
     }
     rows_unsound(p, rows)
 }
@@ -121,9 +113,9 @@ pub fn store_number(p: Partitioning, outer: &[u64], inner: &[u64], rows: &[u64])
 pub fn given_number(p: Partitioning, t: Tuple, outer: &[u64], inner: &[u64], rows: &[u64]) -> u64
     ensures { λ r. ⌜ r ≡ givenNumber p t (stores (now (outer .entry)) (now (inner .entry)) (now (rows .entry))) ⌝ }
 {
-    let number = store_number(p, outer, inner, rows);
-    if number != 0 {
-        return number;
+    let unsound = store_number(p, outer, inner, rows);
+    if unsound != 0 {
+        return unsound;
     }
     interval::tuple::tuple_number(t)
 }

@@ -1,6 +1,5 @@
 -- The checks of `write`, one after the other, and what it leaves known where they pass; what it answers.
 -- Assumes nothing.
-use mathlib.Core.Bool.{true}
 use mathlib.Core.List.{List, [], _∷_}
 use mathlib.Core.Path.{_≡_, refl, sym, _∙_}
 use Prim.Native.Nat.{ℕ, _≤_, _<_}
@@ -14,10 +13,10 @@ use Rattle.lists.proofs.Choice.{first-none, refuse-none, refuse-met, refuse-pas
 use Rattle.lists.proofs.Choice.{answer-here, answer-next, answer-last}
 use Rattle.plan.specs.Plan.{planNumber}
 use Rattle.plan.specs.declared.Partitioning.{Partitioning}
-use Rattle.store.specs.Store.{rowRoom, fitsRows, soundRows}
+use Rattle.store.specs.Store.{rowRoom, fitsRows}
 use Rattle.store.proofs.StoreLoops.{fit-is}
 use Rattle.checks.specs.Stores.{rowsLength, rowsUnsound}
-use Rattle.checks.proofs.Checks.{check-passed}
+use Rattle.checks.proofs.Checks.{rows-fit, rows-sound}
 use Rattle.report.specs.Text.{rowCount, textOf}
 use Rattle.report.specs.Report.{textRoom, reportNumber, SortedStore, ReportWritten}
 use Rattle.report.specs.Steps.{SoundStore, Put}
@@ -45,20 +44,16 @@ module _ (p : Partitioning) (rows : List ℕ) (room : ℕ) where
           ∷ (refuseIf (ltb room (textRoom (rowCount p rows))) 4 ∷ [])) → r ≡ reportNumber p rows room
       fits-next r e = plan-next r (answer-next {n = rowsLength p (length rows)} _ refl f e)
 
-      pub fits : fitsRows p (length rows) ≡ true
-      unfolding rowsLength
-      fits = check-passed (fitsRows p (length rows)) 3 f
-
       pub refuses-unsound : (n : ℕ) → n ≡ rowsUnsound p rows → (n ≡ 0 → ⊥) → n ≡ reportNumber p rows room
       refuses-unsound n e h = fits-next n (answer-here _ e h)
 
       module _ (s : rowsUnsound p rows ≡ 0) where
         pub sound-store : SoundStore p rows
-        unfolding fitsRows rowsUnsound
+        unfolding fitsRows
         sound-store = record {
           legal = l;
-          long = fit-is p (length rows) (rowRoom p) fits .1;
-          sound = check-passed (soundRows p rows) 4 s;
+          long = fit-is p (length rows) (rowRoom p) (rows-fit p (length rows) f) .1;
+          sound = rows-sound p rows s;
         }
 
         sound-next : (r : ℕ) → r ≡ firstOf (refuseIf (ltb room (textRoom (rowCount p rows))) 4 ∷ [])

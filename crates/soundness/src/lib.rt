@@ -1,4 +1,4 @@
-// Check 5: whether a store is sound. What a sound store is stands in crate store, specs/Store.antt.
+// Check 5: whether a store is sound, once for tuples and rows. What a sound store is stands in crate store, specs/Store.antt.
 // Each word is read once: two comparisons say that a record belongs to its partition, and eight words of a tail are
 // tested for 0 at a time.
 ghost use mathlib.Core.Bool.{true};
@@ -17,7 +17,7 @@ use interval::tuple::ROW_WIDTH;
 use interval::tuple::TUPLE_WIDTH;
 use plan::Partitioning;
 
-// What the records of a store are.
+// What the records of a store are: said where the plan is known, so that what a plan asks of a record can go with it.
 enum Records {
     Tuples,
     Rows,

@@ -5,10 +5,11 @@ use native.Mathlib.Omega.{arith}
 use lib.ListN.{length}
 use Rattle.plan.specs.Plan.{planNumber}
 use Rattle.checks.specs.Stores.{rowsLength, rowsUnsound}
+use Rattle.checks.proofs.Checks.{rows-fit}
 use Rattle.report.specs.Steps.{SoundStore}
 use Rattle.report.proofs.Bounds.{rows-most}
 use Rattle.report.proofs.Reports.{refuses-plan, refuses-length, refuses-unsound, refuses-buffer, passes}
-use Rattle.report.proofs.Reports.{fits, sound-store}
+use Rattle.report.proofs.Reports.{sound-store}
 use borrow.Author.Needs.{needs}
 use Rattle.report.proofs.report_number.Statement.{statement}
 use Rattle.report.proofs.report_number.Tie as tie
@@ -53,7 +54,7 @@ returns-2 c =
 rows-unsound-requires : tie.Need-rows-unsound-requires
 rows-unsound-requires c κs =
     let a = c .before .before .before .before .before .args in
-    fits (a .p) (a .rows .now) (a .room) (legal (c .before .before)) (long c)
+    rows-fit (a .p) (length (a .rows .now)) (long c)
 
 returns-3 : tie.Need-returns-3
 returns-3 c =
