@@ -1,5 +1,5 @@
--- Laws of tuples and rows: their words there and back, and read from a list; equality in all words is equality; what a legal tuple, a legal row
--- is, and that such a one passes each check.
+-- Laws of tuples and rows: their words there and back, and read one by one; equality in all words is equality; what a
+-- legal tuple, a legal row is, and that such a one passes each check.
 -- Assumes nothing.
 use mathlib.Core.Bool.{Bool, true, false, _&&_, _||_}
 use mathlib.Core.List.{List, [], _∷_}
@@ -19,8 +19,9 @@ use Rattle.lists.proofs.Choice.{refuse-none, refuse-passed, first-none}
 use Rattle.lists.proofs.Parts.{reads-part}
 use Rattle.interval.specs.Time.{calendarEnd}
 use Rattle.interval.specs.Label.{labelCheck}
-use Rattle.interval.specs.Tuple.{tupleWidth, tupleOf, tupleWords, rowWidth, rowOf, rowWords, itemCheck, validCheck}
-use Rattle.interval.specs.Tuple.{tupleNumber, legalTuple, rowNumber, legalRow, sameInterval, sameTuple, sameRow}
+use Rattle.interval.specs.Tuple.{tupleWidth, tupleOf, tupleWords, rowWidth, rowOf, rowWords}
+use Rattle.interval.specs.Tuple.{itemCheck, validCheck, tupleNumber, legalTuple, rowNumber, legalRow}
+use Rattle.interval.specs.Tuple.{sameInterval, sameTuple, sameRow}
 use Rattle.interval.specs.declared.time.Interval.{Interval}
 use Rattle.interval.specs.declared.tuple.Tuple.{Tuple}
 use Rattle.interval.specs.declared.tuple.Row.{Row}

@@ -1,5 +1,5 @@
-// Tuples and rows: their words, read and written; their checks 6 to 8; their equality. No order of calls, no cost beyond
-// a record's words or a few comparisons. No other file knows where a word of a tuple or of a row stands.
+// Tuples and rows: their words, read and written; their checks 6 to 8; their equality. No order of calls, no cost
+// beyond a record's words or a few comparisons. No other file knows where a word of a tuple or of a row stands.
 ghost use mathlib.Core.Path.{_≡_};
 ghost use Prim.Native.Nat.{_+_, _≤_};
 ghost use lib.ListN.{length};

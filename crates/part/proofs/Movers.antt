@@ -1,6 +1,6 @@
 -- Records moved within a part, over the width w of a record: `copied` and `swapped` (specs/Part).
--- In order: words written over record k; two records swapped; a place of one record is none of those of another that are
--- written so far; `Copying`, the invariant of `copy`; `Swapping`, that of `swap`; the stores of a removal.
+-- In order: words written over record k; two records swapped; a place of one record is none of those of another that
+-- are written so far; `Copying`, the invariant of `copy`; `Swapping`, that of `swap`; the stores of a removal.
 -- Assumes nothing.
 use mathlib.Core.Bool.{Bool, true, false}
 use mathlib.Core.List.{List}
@@ -54,7 +54,8 @@ module _ (w k : ℕ) (part r : List ℕ) (e : length r ≡ w) (fits : roomOf w (
 
 -- ---- records i and k swapped
 
-module _ (w i k : ℕ) (part : List ℕ) (low : roomOf w (i + 1) ≤ length part) (high : roomOf w (k + 1) ≤ length part) where
+module _ (w i k : ℕ) (part : List ℕ) (low : roomOf w (i + 1) ≤ length part)
+    (high : roomOf w (k + 1) ≤ length part) where
   -- record i's words, and record k's
   abbrev first : List ℕ
   first = partAt (roomOf w i) w part
@@ -88,7 +89,8 @@ module _ (w i k : ℕ) (part : List ℕ) (low : roomOf w (i + 1) ≤ length part
 
   pub swapped-count : counted (swapped w i k part) ≡ counted part
   swapped-count =
-      ap counted swapped-is ∙ over-count w k half first first-long half-fits ∙ over-count w i part second second-long low
+      ap counted swapped-is ∙ over-count w k half first first-long half-fits
+      ∙ over-count w i part second second-long low
 
   pub swapped-second : partAt (roomOf w k) w (swapped w i k part) ≡ partAt (roomOf w i) w part
   swapped-second = ap (partAt (roomOf w k) w) swapped-is ∙ over-here w k half first first-long half-fits
@@ -142,17 +144,18 @@ module _ (w i k : ℕ) (part : List ℕ) where
       → Copying w i k part (j + 1) (set now (roomOf w k + j) (getD now (roomOf w i + j) 0))
   copying-more j now fits h s = record {
     within = omega arith;
-    holds =
-        rw (s .holds, unread)
-        (sets-part-more part (roomOf w k) part (roomOf w i) j 0 (omega (arith, room-next w i)));
+    holds = rw (s .holds, unread) (sets-part-more part at part (roomOf w i) j 0 (omega (arith, room-next w i)));
   }
     where
+      at : ℕ
+      at = roomOf w k
+
       moved : List ℕ
       moved = partAt (roomOf w i) j part
 
-      unread : getD (sets part (roomOf w k) (partAt (roomOf w i) j part)) (roomOf w i + j) 0 ≡ getD part (roomOf w i + j) 0
+      unread : getD (sets part at moved) (roomOf w i + j) 0 ≡ getD part (roomOf w i + j) 0
       unread =
-          getD-sets-apart part (roomOf w k) (roomOf w i + j) moved 0
+          getD-sets-apart part at (roomOf w i + j) moved 0
           (rw (length-part (roomOf w i) j part (omega (arith, room-next w i))) (beside w i k j h))
 
 -- records i and k, each over the other
@@ -178,53 +181,61 @@ module _ (w i k : ℕ) (part : List ℕ) where
       → Swapping w i k part j now
       → Swapping w i k part (j + 1)
       (set (set now (roomOf w i + j) (getD now (roomOf w k + j) 0)) (roomOf w k + j) (getD now (roomOf w i + j) 0))
-  swapping-more j now low high h s = record { within = omega arith; holds = rw (s .holds, from-k, from-i) stored }
+  swapping-more j now low high h s = record { within = omega arith; holds = rw (s .holds, unread k, unread i) stored }
     where
+      at-i : ℕ
+      at-i = roomOf w i
+
+      at-k : ℕ
+      at-k = roomOf w k
+
+      -- the words moved so far, and what those of record k leave over record i
       of-i : List ℕ
-      of-i = partAt (roomOf w i) j part
+      of-i = partAt at-i j part
 
       of-k : List ℕ
-      of-k = partAt (roomOf w k) j part
+      of-k = partAt at-k j part
 
       half : List ℕ
-      half = sets part (roomOf w i) (partAt (roomOf w k) j part)
+      half = sets part at-i of-k
 
-      long-i : length (partAt (roomOf w i) j part) ≡ j
-      long-i = length-part (roomOf w i) j part (omega (arith, room-next w i))
+      long-i : length of-i ≡ j
+      long-i = length-part at-i j part (omega (arith, room-next w i))
 
-      long-k : length (partAt (roomOf w k) j part) ≡ j
-      long-k = length-part (roomOf w k) j part (omega (arith, room-next w k))
+      long-k : length of-k ≡ j
+      long-k = length-part at-k j part (omega (arith, room-next w k))
 
       -- the next word of record n, which is i or k, is still as it was
-      unread : (n : ℕ) → getD (sets half (roomOf w k) of-i) (roomOf w n + j) 0 ≡ getD part (roomOf w n + j) 0
+      unread : (n : ℕ) → getD (sets half at-k of-i) (roomOf w n + j) 0 ≡ getD part (roomOf w n + j) 0
       unread n =
-          getD-sets-apart half (roomOf w k) (roomOf w n + j) of-i 0 (rw long-i (beside w n k j h))
-          ∙ getD-sets-apart part (roomOf w i) (roomOf w n + j) of-k 0 (rw long-k (beside w n i j h))
+          getD-sets-apart half at-k (roomOf w n + j) of-i 0 (rw long-i (beside w n k j h))
+          ∙ getD-sets-apart part at-i (roomOf w n + j) of-k 0 (rw long-k (beside w n i j h))
 
-      from-k : getD (sets half (roomOf w k) of-i) (roomOf w k + j) 0 ≡ getD part (roomOf w k + j) 0
-      from-k = unread k
+      word-i : ℕ
+      word-i = getD part (at-i + j) 0
 
-      from-i : getD (sets half (roomOf w k) of-i) (roomOf w i + j) 0 ≡ getD part (roomOf w i + j) 0
-      from-i = unread i
+      word-k : ℕ
+      word-k = getD part (at-k + j) 0
 
-      stored : set (set (sets half (roomOf w k) of-i) (roomOf w i + j) (getD part (roomOf w k + j) 0)) (roomOf w k + j)
-          (getD part (roomOf w i + j) 0)
-          ≡ sets (sets part (roomOf w i) (partAt (roomOf w k) (j + 1) part)) (roomOf w k) (partAt (roomOf w i) (j + 1) part)
+      more : List ℕ
+      more = sets part at-i (partAt at-k (j + 1) part)
+
+      stored : set (set (sets half at-k of-i) (at-i + j) word-k) (at-k + j) word-i
+          ≡ sets more at-k (partAt at-i (j + 1) part)
       stored =
-          ap (λ (ws : List ℕ). set ws (roomOf w k + j) (getD part (roomOf w i + j) 0))
-          (set-sets-apart half (roomOf w k) (roomOf w i + j) of-i (getD part (roomOf w k + j) 0)
-          (rw long-i (beside w i k j h))
-          ∙ ap (λ (ws : List ℕ). sets ws (roomOf w k) of-i)
-          (sets-part-more part (roomOf w i) part (roomOf w k) j 0 (omega (arith, room-next w k))))
-          ∙ sets-part-more (sets part (roomOf w i) (partAt (roomOf w k) (j + 1) part)) (roomOf w k) part (roomOf w i) j 0
-          (omega (arith, room-next w i))
+          ap (λ (ws : List ℕ). set ws (at-k + j) word-i)
+          (set-sets-apart half at-k (at-i + j) of-i word-k (rw long-i (beside w i k j h))
+          ∙ ap (λ (ws : List ℕ). sets ws at-k of-i)
+          (sets-part-more part at-i part at-k j 0 (omega (arith, room-next w k))))
+          ∙ sets-part-more more at-k part at-i j 0 (omega (arith, room-next w i))
 
--- ---- the stores of a removal: the last record over record k, then its own words cleared, lent from its start to its end
+-- ---- the stores of a removal: the last record over record k, then its own words, lent, cleared
 
 pub removed-by : (w k : ℕ) (part once zeroed : List ℕ) → k < counted part → roomOf w (counted part) ≤ length part
     → once ≡ copied w (counted part - 1) k (set part 0 (counted part - 1))
     → (let at = roomOf w (counted part - 1) in
-    zeroed ≡ replicate (length (partAt at (at + w - at) once)) 0 → putMid at (at + w - at) once zeroed ≡ removed w k part)
+    zeroed ≡ replicate (length (partAt at (at + w - at) once)) 0
+    → putMid at (at + w - at) once zeroed ≡ removed w k part)
 unfolding copied removed
 removed-by w k part once zeroed h fits c z =
     rw (z, add-sub-cancel-left at w, length-part at w once inside)

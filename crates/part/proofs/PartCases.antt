@@ -1,10 +1,10 @@
 -- Closed cases that compute, from the definitions that the promises cite: parts with room for two tuples, nine words,
 -- and for two rows, eleven words. Each case is stated once, over the width, and holds of tuples and of rows.
--- In order: the parts; what the writers leave; what is sound and what is not; how often and where a record stands; the
--- records read.
+-- In order: the parts; what the writers and the movers leave; what is sound and what is not; how often and where a
+-- record stands; the records read.
 -- Assumes nothing.
 use mathlib.Core.Bool.{Bool, true, false}
-use mathlib.Core.List.{List, [], _∷_, _++_}
+use mathlib.Core.List.{List, [], _∷_, _++_, map}
 use mathlib.Core.Path.{_≡_, refl}
 use Prim.Native.Nat.{ℕ, _-_}
 use lib.ListN.{getD, drop, replicate}
@@ -54,138 +54,96 @@ row-part : two (rowWords r₁) (rowWords r₂)
     ≡ 2 ∷ (1 ∷ (10 ∷ (11 ∷ (5 ∷ (9 ∷ (2 ∷ (20 ∷ (21 ∷ (1 ∷ (3 ∷ []))))))))))
 row-part = refl
 
--- ---- what the writers leave: one append and another; the first of two taken out, so that the last moves over it and
--- its words become 0; the last of two taken out; the only one; the freed place used again; a record over another, and
--- over itself; two records swapped, from either side, and one with itself
+-- ---- what is computed, and what it is
 
-record Writes (w : ℕ) (a b c : List ℕ) : Type 0 where
-  first : appended w a (none w) ≡ one w a
-  second : appended w b (one w a) ≡ two a b
-  over : removed w 0 (two a b) ≡ one w b
-  last : removed w 1 (two a b) ≡ one w a
-  only : removed w 0 (one w a) ≡ none w
-  reused : appended w c (removed w 0 (two a b)) ≡ two b c
-  reused-last : appended w c (removed w 1 (two a b)) ≡ two a c
-  copied-down : copied w 1 0 (two a b) ≡ two b b
-  copied-up : copied w 0 1 (two a b) ≡ two a a
-  copied-itself : copied w 1 1 (two a b) ≡ two a b
-  swapped-both : swapped w 0 1 (two a b) ≡ two b a
-  swapped-back : swapped w 1 0 (two a b) ≡ two b a
-  swapped-itself : swapped w 0 0 (two a b) ≡ two a b
+Cases : {A : Type 0} → List (A × A) → Type 0
+Cases cs = map (λ c. c .0) cs ≡ map (λ c. c .1) cs
 
-tuples-written : Writes tupleWidth (tupleWords t₁) (tupleWords t₂) (tupleWords t₃)
-unfolding counted appended copied swapped removed
-tuples-written = record {
-  first = refl;
-  second = refl;
-  over = refl;
-  last = refl;
-  only = refl;
-  reused = refl;
-  reused-last = refl;
-  copied-down = refl;
-  copied-up = refl;
-  copied-itself = refl;
-  swapped-both = refl;
-  swapped-back = refl;
-  swapped-itself = refl;
-}
+-- ---- what the writers leave
 
-rows-written : Writes rowWidth (rowWords r₁) (rowWords r₂) (rowWords r₃)
-unfolding counted appended copied swapped removed
-rows-written = record {
-  first = refl;
-  second = refl;
-  over = refl;
-  last = refl;
-  only = refl;
-  reused = refl;
-  reused-last = refl;
-  copied-down = refl;
-  copied-up = refl;
-  copied-itself = refl;
-  swapped-both = refl;
-  swapped-back = refl;
-  swapped-itself = refl;
-}
+writes : ℕ → List ℕ → List ℕ → List ℕ → List (List ℕ × List ℕ)
+writes w a b c =
+    -- one append, and another
+    (appended w a (none w), one w a)
+    ∷ ((appended w b (one w a), two a b)
+    -- the first of two taken out, so that the last moves over it and its words become 0; the last of two; the only one
+    ∷ ((removed w 0 (two a b), one w b)
+    ∷ ((removed w 1 (two a b), one w a)
+    ∷ ((removed w 0 (one w a), none w)
+    -- the freed place used again
+    ∷ ((appended w c (removed w 0 (two a b)), two b c)
+    ∷ ((appended w c (removed w 1 (two a b)), two a c)
+    -- a record over another, from either side, and over itself
+    ∷ ((copied w 1 0 (two a b), two b b)
+    ∷ ((copied w 0 1 (two a b), two a a)
+    ∷ ((copied w 1 1 (two a b), two a b)
+    -- two records swapped, from either side, and one with itself
+    ∷ ((swapped w 0 1 (two a b), two b a)
+    ∷ ((swapped w 1 0 (two a b), two b a)
+    ∷ ((swapped w 0 0 (two a b), two a b)
+    ∷ []))))))))))))
 
--- ---- what is sound: no record, one, two; and what is not: a count above capacity, whatever the records; a last word,
--- after the counted records, that is not 0; a first, a last counted record that is not legal (here: whose label is 0)
+tuples-written : Cases (writes tupleWidth (tupleWords t₁) (tupleWords t₂) (tupleWords t₃))
+unfolding Cases writes counted appended copied swapped removed
+tuples-written = refl
 
-abbrev labelled : List ℕ → Bool
+rows-written : Cases (writes rowWidth (rowWords r₁) (rowWords r₂) (rowWords r₃))
+unfolding Cases writes counted appended copied swapped removed
+rows-written = refl
+
+-- ---- what is sound, where a record is legal if its label is not 0
+
+labelled : List ℕ → Bool
 labelled r = ltb 0 (getD r 0 0)
 
-record Sound (w : ℕ) (a b : List ℕ) : Type 0 where
-  empty : soundPart w 2 labelled (none w) ≡ true
-  half : soundPart w 2 labelled (one w a) ≡ true
-  full : soundPart w 2 labelled (two a b) ≡ true
-  above : soundPart w 2 (λ r. true) (3 ∷ (a ++ b)) ≡ false
-  left : soundPart w 2 labelled (1 ∷ (a ++ (replicate (w - 1) 0 ++ (7 ∷ [])))) ≡ false
-  illegal : soundPart w 2 labelled (1 ∷ (0 ∷ (drop 1 a ++ replicate w 0))) ≡ false
-  illegal-last : soundPart w 2 labelled (2 ∷ (a ++ (0 ∷ drop 1 b))) ≡ false
+sounds : ℕ → List ℕ → List ℕ → List (Bool × Bool)
+sounds w a b =
+    -- no record, one, two
+    (soundPart w 2 labelled (none w), true)
+    ∷ ((soundPart w 2 labelled (one w a), true)
+    ∷ ((soundPart w 2 labelled (two a b), true)
+    -- not sound: a count above capacity, whatever the records
+    ∷ ((soundPart w 2 (λ r. true) (3 ∷ (a ++ b)), false)
+    -- a last word, after the counted records, that is not 0
+    ∷ ((soundPart w 2 labelled (1 ∷ (a ++ (replicate (w - 1) 0 ++ (7 ∷ [])))), false)
+    -- a first, a last counted record that is not legal
+    ∷ ((soundPart w 2 labelled (1 ∷ (0 ∷ (drop 1 a ++ replicate w 0))), false)
+    ∷ ((soundPart w 2 labelled (2 ∷ (a ++ (0 ∷ drop 1 b))), false)
+    ∷ []))))))
 
-tuples-sound : Sound tupleWidth (tupleWords t₁) (tupleWords t₂)
-unfolding counted recordsIn soundPart
-tuples-sound = record {
-  empty = refl;
-  half = refl;
-  full = refl;
-  above = refl;
-  left = refl;
-  illegal = refl;
-  illegal-last = refl;
-}
+tuples-sound : Cases (sounds tupleWidth (tupleWords t₁) (tupleWords t₂))
+unfolding Cases sounds labelled counted recordsIn soundPart
+tuples-sound = refl
 
-rows-sound : Sound rowWidth (rowWords r₁) (rowWords r₂)
-unfolding counted recordsIn soundPart
-rows-sound = record {
-  empty = refl;
-  half = refl;
-  full = refl;
-  above = refl;
-  left = refl;
-  illegal = refl;
-  illegal-last = refl;
-}
+rows-sound : Cases (sounds rowWidth (rowWords r₁) (rowWords r₂))
+unfolding Cases sounds labelled counted recordsIn soundPart
+rows-sound = refl
 
--- ---- how often and where a record stands: one that stands twice, one that stands once, one that differs in one word
--- from another; and one past the count
+-- ---- how often and where a record stands
 
-record Looks {A : Type 0} (words : A → List ℕ) (times place : A → List ℕ → ℕ) (a b c : A) : Type 0 where
-  twice : times a (two (words a) (words a)) ≡ 2
-  first-of : place a (two (words a) (words a)) ≡ 0
-  once : times b (two (words a) (words b)) ≡ 1
-  second-of : place b (two (words a) (words b)) ≡ 1
-  never : times c (two (words a) (words b)) ≡ 0
-  nowhere : place c (two (words a) (words b)) ≡ 2
-  past : times b (1 ∷ (words a ++ words b)) ≡ 0
-  past-end : place b (1 ∷ (words a ++ words b)) ≡ 1
+looks : {A : Type 0} → (A → List ℕ) → (A → List ℕ → ℕ) → (A → List ℕ → ℕ) → A → A → A → List (ℕ × ℕ)
+looks words often place a b c =
+    -- one that stands twice
+    (often a (two (words a) (words a)), 2)
+    ∷ ((place a (two (words a) (words a)), 0)
+    -- one that stands once
+    ∷ ((often b (two (words a) (words b)), 1)
+    ∷ ((place b (two (words a) (words b)), 1)
+    -- one that differs in one word from another
+    ∷ ((often c (two (words a) (words b)), 0)
+    ∷ ((place c (two (words a) (words b)), 2)
+    -- one past the count
+    ∷ ((often b (1 ∷ (words a ++ words b)), 0)
+    ∷ ((place b (1 ∷ (words a ++ words b)), 1)
+    ∷ [])))))))
 
-tuples-looked : Looks tupleWords (λ t part. times sameTuple t (tuplesIn part)) placeOfTuple t₁ t₂ t₃
-unfolding counted recordsIn tuplesIn placeOfTuple sameTuple sameInterval
-tuples-looked = record {
-  twice = refl;
-  first-of = refl;
-  once = refl;
-  second-of = refl;
-  never = refl;
-  nowhere = refl;
-  past = refl;
-  past-end = refl;
-}
+tuples-looked : Cases (looks tupleWords (λ t part. times sameTuple t (tuplesIn part)) placeOfTuple t₁ t₂ t₃)
+unfolding Cases looks counted recordsIn tuplesIn placeOfTuple sameTuple sameInterval
+tuples-looked = refl
 
-rows-looked : Looks rowWords timesOfRow placeOfRow r₁ r₂ r₃
-unfolding counted recordsIn rowsIn timesOfRow placeOfRow sameRow sameInterval
-rows-looked = record {
-  twice = refl;
-  first-of = refl;
-  once = refl;
-  second-of = refl;
-  never = refl;
-  nowhere = refl;
-  past = refl;
-  past-end = refl;
-}
+rows-looked : Cases (looks rowWords timesOfRow placeOfRow r₁ r₂ r₃)
+unfolding Cases looks counted recordsIn rowsIn timesOfRow placeOfRow sameRow sameInterval
+rows-looked = refl
 
 -- ---- record k, and the counted records in order
 

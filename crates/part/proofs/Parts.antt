@@ -23,7 +23,8 @@ use Rattle.lists.specs.Words.{partAt, zeros, recordsOf, recordAt}
 use Rattle.lists.proofs.Choice.{and-left, and-right, and-both}
 use Rattle.lists.proofs.Members.{all-append, all-getD}
 use Rattle.lists.proofs.Same.{same-overwrite}
-use Rattle.lists.proofs.Parts.{start-next, start-le, start-within, length-part, part-drop, length-put, sets-put, drop-sets}
+use Rattle.lists.proofs.Parts.{start-next, start-le, start-within, length-part, part-drop, length-put, sets-put}
+use Rattle.lists.proofs.Parts.{drop-sets}
 use Rattle.lists.proofs.Words.{zeros-append, zeros-replicate, zeros-drop, zeros-are}
 use Rattle.lists.proofs.Records.{length-records, record-length, record-at, records-take-fewer, records-put}
 use Rattle.lists.proofs.Records.{records-past, records-append}

@@ -1,5 +1,5 @@
 -- One partition (document 01: lane) as words: "one count word, then its full capacity of records". What is read of it, and
--- what the writers leave. The width w of a record is 4 for a tuple and 5 for a row.
+-- what the writers leave. The width w of a record is a tuple's or a row's.
 -- The laws are in proofs/Parts.antt.
 use mathlib.Core.Bool.{Bool, _&&_}
 use mathlib.Core.List.{List, [], _∷_, map}

@@ -22,7 +22,9 @@ inside : (c : tie.Start)
 inside c =
     let w = c .args .width in
     let n = counted (c .args .part .now) in
-    (omega (arith, room-last w n (omega arith), c .pre .1), omega (arith, room-within w (c .args .k) n (c .pre .0), c .pre .1))
+    let last = room-last w n (omega arith) in
+    let over = room-within w (c .args .k) n (c .pre .0) in
+    (omega (arith, c .pre .1), omega (arith, c .pre .1))
 
 sub-last : tie.Need-sub-last
 unfolding counted

@@ -26,13 +26,23 @@ part-remove-end : tie.Need-part-remove-end
 part-remove-end c = search needs
 
 remove-requires : tie.Need-remove-requires
-remove-requires c κs = let a = c .before .before .args in let at = a .i .0 * a .room in (rw (lent-is at (a .room) (a .store .now)) (c .before .before .pre .1 .0), lent-room _ at (a .room) (a .store .now) (c .before .before .pre .0) (rw (lent-is at (a .room) (a .store .now)) (c .before .before .pre .1 .1)))
+remove-requires c κs =
+    let start = c .before .before in
+    let a = start .args in
+    let at = a .i .0 * a .room in
+    let lent = lent-is at (a .room) (a .store .now) in (
+      rw lent (start .pre .1 .0),
+      lent-room _ at (a .room) (a .store .now) (start .pre .0) (rw lent (start .pre .1 .1)),
+    )
 
 same-length : tie.Need-same-length
 same-length c = search needs
 
 returns : tie.Need-returns
-returns c = let a = c .before .before .before .before .before .args in put-back (removed (a .width) (a .k)) (a .i .0 * a .room) (a .room) (a .store .now) _ (c .before .before .remove .ensures)
+returns c =
+    let a = c .before .before .before .before .before .args in
+    let taken = c .before .before .remove .ensures in
+    put-back (removed (a .width) (a .k)) (a .i .0 * a .room) (a .room) (a .store .now) _ taken
 
 pub remove-spec : {M : Type 1} → statement M
 remove-spec =
