@@ -256,10 +256,12 @@ EDITS = [
     ),
     (
         'join/lib.rt',
-        'let number = checks::store_number(p, outer, inner, rows);',
+        'let number = checks::store_number(p, outer, inner, rows);\n    if number != 0 {\n'
+        '        return checks::refused(number);\n    }\n    let bad =',
         'let early = interval::tuple::tuple_number(t);\n    if early != 0 {\n'
         '        return checks::refused(early);\n    }\n'
-        '    let number = checks::store_number(p, outer, inner, rows);',
+        '    let number = checks::store_number(p, outer, inner, rows);\n    if number != 0 {\n'
+        '        return checks::refused(number);\n    }\n    let bad =',
     ),
     (
         'join/lib.rt',
