@@ -23,11 +23,12 @@ use plan::PLACES;
 use plan::Partitioning;
 use rows::Side;
 
-// The words of a plan before its last minutes, all of them, and the words of an answer.
+// The words of a plan before its last minutes, and with them.
 const PLAN_HEAD: usize = 3;
 
 const PLAN_WORDS: usize = PLAN_HEAD + PLACES;
 
+// The words of an answer.
 const ANSWER_WORDS: usize = 3;
 
 // What a change does with its tuple: puts it in, or takes it out.

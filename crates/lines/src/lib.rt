@@ -10,9 +10,10 @@ use interval::time::Chronon;
 use interval::time::Interval;
 use interval::tuple::Tuple;
 
-// The most bytes of a line, and the most digits of a number.
+// The most bytes of a line before its byte 10.
 pub const LINE_LENGTH: usize = 80;
 
+// The most digits of a number.
 const MOST_DIGITS: usize = 8;
 
 // The four words of a change: which side, in or out.

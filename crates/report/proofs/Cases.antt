@@ -152,5 +152,7 @@ checks =
     ∷ []
 
 pub check-cases : checks ≡ 1 ∷ 2 ∷ 4 ∷ 5 ∷ 0 ∷ 4 ∷ []
-unfolding reportNumber planNumber cutsOf cover legalPlan rowsLength rowsUnsound fitsRows soundRows soundRowPart soundPart rowAtHome legalRow rowNumber labelCheck itemCheck validCheck home homeOf firstOf storedRows rowsIn recordsIn counted
+unfolding reportNumber planNumber cutsOf cover legalPlan rowsLength rowsUnsound fitsRows soundRows soundRowPart
+    soundPart rowAtHome legalRow rowNumber labelCheck itemCheck validCheck home homeOf firstOf storedRows rowsIn
+    recordsIn counted
 check-cases = refl

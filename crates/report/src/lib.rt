@@ -15,7 +15,7 @@ ghost use Rattle.report.specs.Steps.{SoundStore};
 use plan::PartitionIndex;
 use plan::Partitioning;
 
-// Bytes that the line `rows,COUNT` surely fits in, and a row's line.
+// The bytes that the line `rows,COUNT` surely fits in, and those for a row's line.
 pub const HEAD_BYTES: usize = 16;
 
 pub const ROW_BYTES: usize = 48;

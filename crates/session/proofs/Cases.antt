@@ -78,7 +78,8 @@ lanes =
     ∷ []))
 
 lanes-hold : Cases lanes
-unfolding lanes Cases numbersOf badLane laneCheck laneNumber changeNumber sessionAfter firstOf cutsOf cover planNumber legalPlan fitsTuples fitsRows tuplesLength rowsLength lengthsNumber
+unfolding lanes Cases numbersOf badLane laneCheck laneNumber changeNumber sessionAfter firstOf cutsOf cover planNumber
+    legalPlan fitsTuples fitsRows tuplesLength rowsLength lengthsNumber
 lanes-hold = (refl, (refl, (refl, tt)))
 
 -- changes on an empty wall: an insert, a delete, an item number above 999,999, a span that ends before it starts
@@ -89,5 +90,8 @@ changes : List (Stores × List Line × List ℕ)
 changes = (blankOf 1, some, 0 ∷ (0 ∷ (11 ∷ (7 ∷ (8 ∷ []))))) ∷ []
 
 changes-hold : Cases changes
-unfolding changes Cases numbersOf badLane laneCheck laneNumber changeNumber sessionAfter firstOf cutsOf cover planNumber legalPlan home homeOf fitsTuples fitsRows tuplesLength rowsLength lengthsNumber counted recordsIn tuplesIn rowsIn soundPart soundTuplePart soundRowPart soundTuples soundRows tuplesUnsound rowsUnsound storeNumber labelCheck itemCheck validCheck tupleNumber insertNumber deleteNumber overfull made madeWith storedTuples rowsAt
+unfolding changes Cases numbersOf badLane laneCheck laneNumber changeNumber sessionAfter firstOf cutsOf cover
+    planNumber legalPlan home homeOf fitsTuples fitsRows tuplesLength rowsLength lengthsNumber counted recordsIn
+    tuplesIn rowsIn soundPart soundTuplePart soundRowPart soundTuples soundRows tuplesUnsound rowsUnsound storeNumber
+    labelCheck itemCheck validCheck tupleNumber insertNumber deleteNumber overfull made madeWith storedTuples rowsAt
 changes-hold = (refl, tt)

@@ -22,25 +22,26 @@ use plan::PLACES;
 use plan::Partitioning;
 use rows::Side;
 
-// The most lanes that the program reads, and the tuples and rows of a lane.
+// The most lanes that the program takes.
 pub const PARTITIONS: u64 = 8;
 
+// The tuple capacity and the row capacity of a lane.
 pub const TUPLES: u64 = 32;
 
 pub const ROWS: u64 = 64;
 
-// The words of a lane of tuples and of rows: the count, and the records.
+// The lanes before the last that there may be.
+const BEFORE_LAST: u64 = PARTITIONS - 1;
+
+// The words of a lane of tuples, and of rows: the count and the records.
 const TUPLE_ROOM: usize = 1 + TUPLE_WIDTH * TUPLES as usize;
 
 const ROW_ROOM: usize = 1 + ROW_WIDTH * ROWS as usize;
 
-// The words of a tuple store and of the rows store that have room for every plan of the program.
+// The words of a tuple store, and of the rows store, for the most lanes.
 pub const TUPLE_WORDS: usize = PARTITIONS as usize * TUPLE_ROOM;
 
 pub const ROW_WORDS: usize = PARTITIONS as usize * ROW_ROOM;
-
-// The lanes before the last that there may be.
-const BEFORE_LAST: u64 = PARTITIONS - 1;
 
 // The number of a lane line after the plan is complete, and of a change before it is.
 const OUT_OF_TURN: u64 = 16;
@@ -82,7 +83,7 @@ pub fn plan_of(s: Session) -> Partitioning
     }
 }
 
-// The lanes whose words are in use: at most all.
+// The lanes whose words are in use: the session's, at most the most.
 fn used_partitions(s: Session) -> usize
     ensures { λ r. ⌜ r ≡ usedPartitions s ⌝ }
 {
@@ -92,26 +93,25 @@ fn used_partitions(s: Session) -> usize
     PARTITIONS as usize
 }
 
+// Of `words` in use those that a store of `len` words has.
+fn within(words: usize, len: usize) -> usize
+    ensures { λ r. ⌜ r ≡ min words len ⌝ }
+{
+    if len < words { len } else { words }
+}
+
 // The words in use of a tuple store of `len` words: those of the lanes, or all where there are fewer.
 pub fn used_tuples(s: Session, len: usize) -> usize
     ensures { λ r. ⌜ r ≡ min (usedTuples s) len ⌝ }
 {
-    let used = used_partitions(s) * TUPLE_ROOM;
-    if len < used {
-        return len;
-    }
-    used
+    within(used_partitions(s) * TUPLE_ROOM, len)
 }
 
 // The words in use of a rows store of `len` words: those of the lanes, or all where there are fewer.
 pub fn used_rows(s: Session, len: usize) -> usize
     ensures { λ r. ⌜ r ≡ min (usedRows s) len ⌝ }
 {
-    let used = used_partitions(s) * ROW_ROOM;
-    if len < used {
-        return len;
-    }
-    used
+    within(used_partitions(s) * ROW_ROOM, len)
 }
 
 // The checks of a lane line: 16 once the plan is complete, 2 for one that cannot be the next lane.

@@ -13,9 +13,6 @@ use session::PARTITIONS;
 use session::ROWS;
 use session::Session;
 
-// The most digits of a 64-bit number.
-const MOST_DIGITS: usize = 20;
-
 // The bytes that a refusal surely fits in.
 const REFUSAL_BYTES: usize = 64;
 
@@ -41,7 +38,7 @@ fn put_number(text: &mut [u8], at: usize, n: u64) -> usize
     requires { ⌜ at + 20 ≤ length (now text) ⌝ }
     ensures { λ r. ⌜ r ≤ at + 20 ⌝ }
 {
-    let mut digits = [0u8; MOST_DIGITS];
+    let mut digits = [0u8; 20];
     let k = io::decimal(n, &mut digits);
     put(text, at, &digits[..k])
 }

@@ -1,7 +1,7 @@
 -- `lines::read_number` meets its contract. The loop's invariant is `Digits`: i digits are read, and their value is n.
 -- The measure is how many bytes are left. Assumes nothing.
 use mathlib.Core.Logic.{inl, inr, ⊎-elim}
-use Prim.Native.Nat.{_-_}
+use Prim.Native.Nat.{_-_, _<_}
 use native.Mathlib.Omega.{arith}
 use borrow.Author.Needs.{needs}
 use lib.ListN.{length}
@@ -50,24 +50,22 @@ returns-5 c =
     let at = c .before .before .before .before .loop in
     digits-high bs (at .i) (at .n) (c .before .before .before .loop-test .taken) (omega arith) (at .inv)
 
-mul-n : tie.Need-mul-n Inv-loop μ-loop
-mul-n c =
+-- a digit: the number so far has at most seven
+few : (c : tie.Else6 Inv-loop μ-loop) → c .before .before .before .before .loop .n < 10000000
+few c =
     let c5 = c .before .before .before .before .before in
     let bs = c5 .before .before .before .before .args .field .now in
     let at = c .before .before .before .before .loop in
-    let test = c .before .before .before .loop-test .taken in
-    omega (arith, digits-fit bs (at .i) (at .n) test (omega arith) (at .inv))
+    digits-fit bs (at .i) (at .n) (c .before .before .before .loop-test .taken) (omega arith) (at .inv)
+
+mul-n : tie.Need-mul-n Inv-loop μ-loop
+mul-n c = omega (arith, few c)
 
 cast-n : tie.Need-cast-n Inv-loop μ-loop
 cast-n c = omega arith
 
 add-n : tie.Need-add-n Inv-loop μ-loop
-add-n c =
-    let c5 = c .before .before .before .before .before in
-    let bs = c5 .before .before .before .before .args .field .now in
-    let at = c .before .before .before .before .loop in
-    let test = c .before .before .before .loop-test .taken in
-    omega (arith, digits-fit bs (at .i) (at .n) test (omega arith) (at .inv))
+add-n c = omega (arith, few c)
 
 add-i : tie.Need-add-i Inv-loop μ-loop
 add-i c = search needs

@@ -8,14 +8,14 @@ use Rattle.session.proofs.used_tuples.Tie as tie
 used-partitions-requires : tie.Need-used-partitions-requires
 used-partitions-requires c κs = search needs
 
-mul-used : tie.Need-mul-used
-mul-used c = omega arith
+mul-within : tie.Need-mul-within
+mul-within c = omega arith
+
+within-requires : tie.Need-within-requires
+within-requires c κs = search needs
 
 returns : tie.Need-returns
 returns c = omega arith
 
-returns-2 : tie.Need-returns-2
-returns-2 c = omega arith
-
 pub used-tuples-spec : {M : Type 1} → statement M
-used-tuples-spec = tie.close (tie.spec used-partitions-requires mul-used returns returns-2)
+used-tuples-spec = tie.close (tie.spec used-partitions-requires mul-within within-requires returns)
