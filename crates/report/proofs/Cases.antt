@@ -151,6 +151,5 @@ checks =
     ∷ []
 
 pub check-cases : checks ≡ 1 ∷ 2 ∷ 4 ∷ 5 ∷ 0 ∷ 4 ∷ []
-unfolding reportNumber planNumber cutsOf cover legalPlan fitsRows soundRows soundRowPart soundPart rowAtHome legalRow
-    rowNumber labelCheck itemCheck validCheck home homeOf firstOf storedRows rowsIn recordsIn counted
+unfolding reportNumber planNumber cutsOf cover legalPlan fitsRows soundRows soundRowPart soundPart rowAtHome legalRow rowNumber labelCheck itemCheck validCheck home homeOf firstOf storedRows rowsIn recordsIn counted
 check-cases = refl

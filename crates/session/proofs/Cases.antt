@@ -77,8 +77,7 @@ lanes =
     ∷ []))
 
 lanes-hold : Cases lanes
-unfolding lanes Cases numbersOf badLane laneCheck laneNumber changeNumber sessionAfter firstOf cutsOf cover planNumber
-    legalPlan fitsTuples fitsRows fitsAll lengthsNumber
+unfolding lanes Cases numbersOf badLane laneCheck laneNumber changeNumber sessionAfter firstOf cutsOf cover planNumber legalPlan fitsTuples fitsRows fitsAll lengthsNumber
 lanes-hold = (refl, (refl, (refl, tt)))
 
 -- changes on an empty wall: an insert, a delete, an item number above 999,999, a span that ends before it starts
@@ -89,8 +88,5 @@ changes : List (Stores × List Line × List ℕ)
 changes = (blankOf 1, some, 0 ∷ (0 ∷ (11 ∷ (7 ∷ (8 ∷ []))))) ∷ []
 
 changes-hold : Cases changes
-unfolding changes Cases numbersOf badLane laneCheck laneNumber changeNumber sessionAfter firstOf cutsOf cover
-    planNumber legalPlan home homeOf fitsTuples fitsRows fitsAll lengthsNumber counted recordsIn tuplesIn rowsIn
-    soundPart soundTuplePart soundRowPart soundTuples soundRows sound storeNumber labelCheck itemCheck validCheck
-    tupleNumber insertNumber deleteNumber overfull made madeWith storedTuples rowsAt
+unfolding changes Cases numbersOf badLane laneCheck laneNumber changeNumber sessionAfter firstOf cutsOf cover planNumber legalPlan home homeOf fitsTuples fitsRows fitsAll lengthsNumber counted recordsIn tuplesIn rowsIn soundPart soundTuplePart soundRowPart soundTuples soundRows sound storeNumber labelCheck itemCheck validCheck tupleNumber insertNumber deleteNumber overfull made madeWith storedTuples rowsAt
 changes-hold = (refl, tt)

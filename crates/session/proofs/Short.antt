@@ -11,8 +11,9 @@ use lib.ListN.{length, take, length-take}
 use borrow.Author.Tests.{ne-eqb}
 use Rattle.lists.specs.Choice.{firstOf}
 use Rattle.interval.specs.declared.tuple.Tuple.{Tuple}
+use Rattle.store.specs.Store.{tupleRoom, rowRoom}
 use Rattle.plan.specs.Plan.{legalPlan}
-use Rattle.store.specs.Store.{tupleRoom, rowRoom, fitsTuples, fitsRows}
+use Rattle.store.specs.Store.{fitsTuples, fitsRows}
 use Rattle.checks.specs.Stores.{Stores, fitsAll, lengthsNumber, openNumber, storeNumber}
 use Rattle.join.specs.Changes.{insertNumber, deleteNumber}
 use Rattle.lines.specs.declared.Word.{Word}
