@@ -92,8 +92,7 @@ output =
     ++ bytes "3,AL,11,2,41,48\n"
 
 example-printed : printedRows three (joinOf drawings spots) ≡ output
-unfolding printedRows laneLines sortRows putRow before rowLine countLine digitsOf lettersOf overlap rowsOfPair joinOf
-    rowsAt home homeOf cutsOf
+unfolding printedRows laneLines sortRows putRow before rowLine countLine digitsOf lettersOf overlap rowsOfPair joinOf rowsAt home homeOf cutsOf
 example-printed = refl
 
 -- ---- refused lines
