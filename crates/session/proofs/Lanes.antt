@@ -8,7 +8,7 @@ use Prim.Native.Nat.{ℕ, _-_, _≤_, _<_}
 use lib.Dec.{leb, ltb, eqb}
 use lib.ListN.{List·getD-map}
 use borrow.Author.Tests.{leb-false, le-leb, lt-leb, lt-ltb, le-ltb, eq-eqb, ne-eqb, eqb-true, not-false}
-use Rattle.lists.specs.Choice.{pick, refuseIf, firstOf}
+use Rattle.lists.specs.Choice.{refuseIf, firstOf}
 use Rattle.lists.proofs.Choice.{and-both, or-left, or-right, or-none, or-neither-left, or-neither-right}
 use Rattle.lists.proofs.Choice.{first-none, refuse-none, pick-true, pick-false}
 use Rattle.interval.specs.Time.{calendarEnd}

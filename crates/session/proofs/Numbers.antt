@@ -23,7 +23,7 @@ use Rattle.interval.specs.Tuple.{itemEnd, tupleNumber, itemCheck, validCheck, s
 use Rattle.interval.specs.declared.time.Chronon.{Chronon}
 use Rattle.interval.specs.declared.time.Interval.{Interval}
 use Rattle.interval.specs.declared.tuple.Tuple.{Tuple}
-use Rattle.plan.specs.Plan.{legalPlan, planNumber}
+use Rattle.plan.specs.Plan.{legalPlan}
 use Rattle.plan.specs.declared.Partitioning.{Partitioning}
 use Rattle.plan.proofs.Homes.{plan-legal-test}
 use Rattle.store.specs.Store.{tupleRoom, rowRoom, fitsTuples, fitsRows, storedTuples, storedRows}
@@ -63,6 +63,12 @@ module _ (s : Session) (S : Stores) (g : Good s) (done : s .complete ≡ true) (
   unfolding fitsTuples
   tuples-fit ws l = fit _ (s .lanes * tupleRoom (planOf s)) (omega (arith, length-take (usedTuples s) ws, g .most))
 
+  outer-fits : fitsTuples (planOf s) (length (wall .outer)) ≡ true
+  outer-fits = tuples-fit (S .outer) (y .outer)
+
+  inner-fits : fitsTuples (planOf s) (length (wall .inner)) ≡ true
+  inner-fits = tuples-fit (S .inner) (y .inner)
+
   rows-fit : fitsRows (planOf s) (length (wall .rows)) ≡ true
   unfolding fitsRows
   rows-fit =
@@ -71,7 +77,7 @@ module _ (s : Session) (S : Stores) (g : Good s) (done : s .complete ≡ true) (
 
   pub wall-open : openNumber (planOf s) wall ≡ 0
   unfolding lengthsNumber tuplesLength rowsLength firstOf
-  wall-open = rw (plan-legal s g done, tuples-fit (S .outer) (y .outer), tuples-fit (S .inner) (y .inner), rows-fit)
+  wall-open = rw (plan-legal s g done, outer-fits, inner-fits, rows-fit)
 
 -- ---- the first check that applies, among numbers that pass a test
 
