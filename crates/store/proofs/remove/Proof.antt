@@ -1,8 +1,9 @@
 -- `store::remove` meets its contract: the partition is lent to the writer and put back.
 -- Assumes nothing.
-use Prim.Native.Nat.{_*_}
-use Rattle.part.specs.Part.{removed}
-use Rattle.store.proofs.StoreLoops.{lent-is, lent-room, put-back}
+use Prim.Native.Nat.{_*_, _<_}
+use native.Mathlib.Omega.{arith}
+use Rattle.part.specs.Part.{counted, removed}
+use Rattle.store.proofs.StoreLoops.{lent, lent-is, lent-room, put-back}
 use borrow.Author.Needs.{needs}
 use Rattle.store.proofs.remove.Statement.{statement}
 use Rattle.store.proofs.remove.Tie as tie
@@ -30,10 +31,9 @@ remove-requires c κs =
     let start = c .before .before in
     let a = start .args in
     let at = a .i .0 * a .room in
-    let lent = lent-is at (a .room) (a .store .now) in (
-      rw lent (start .pre .1 .0),
-      lent-room _ at (a .room) (a .store .now) (start .pre .0) (rw lent (start .pre .1 .1)),
-    )
+    let lent-part = lent-is at (a .room) (a .store .now) in
+    let held : a .k < counted (lent at (a .room) (a .store .now)) = rw lent-part (start .pre .1 .0) in
+    (omega arith, lent-room _ at (a .room) (a .store .now) (start .pre .0) (rw lent-part (start .pre .1 .1)))
 
 same-length : tie.Need-same-length
 same-length c = search needs
