@@ -1,18 +1,19 @@
--- Going down the checks of plan and stores: one check of three tests, what a passed list of checks says, and what a
--- refusal answers.
+-- Going down the checks of plan and stores: one check of three tests, three checks of one number, and what a passed list
+-- of checks says.
 -- Assumes nothing.
 use mathlib.Core.Bool.{Bool, true, false, not, _&&_}
-use mathlib.Core.List.{[], _∷_}
-use mathlib.Core.Path.{_≡_, _∙_}
-use Prim.Native.Nat.{ℕ}
+use mathlib.Core.List.{List, [], _∷_}
+use mathlib.Core.Path.{_≡_, refl, sym, ap, _∙_}
+use Prim.Native.Nat.{ℕ, suc}
 use lib.ListN.{length}
 use borrow.Author.Tests.{not-false}
-use Rattle.lists.specs.Choice.{refuseIf, firstOf}
-use Rattle.lists.proofs.Choice.{and-left, and-right, first-none, refuse-none, answer-last}
+use Rattle.lists.specs.Choice.{refuseIf, orElse, firstOf}
+use Rattle.lists.proofs.Choice.{first-none, refuse-none, answer-last}
 use Rattle.plan.specs.Plan.{planNumber}
 use Rattle.plan.specs.declared.Partitioning.{Partitioning}
 use Rattle.store.specs.Store.{fitsTuples, fitsRows, soundTuples, soundRows}
-use Rattle.checks.specs.Stores.{Stores, fitsAll, sound, lengthsNumber, storeNumber}
+use Rattle.checks.specs.Stores.{Stores, fitsAll, sound, tuplesLength, rowsLength, tuplesUnsound, rowsUnsound}
+use Rattle.checks.specs.Stores.{lengthsNumber, openNumber, storeNumber}
 
 -- the last check of a list, where its test fails and where it holds
 pub check-fails : (b : Bool) (n : ℕ) → b ≡ false → n ≡ firstOf (refuseIf (not b) n ∷ [])
@@ -20,6 +21,13 @@ check-fails b n e = answer-last (rw e)
 
 pub check-holds : (b : Bool) (n : ℕ) → b ≡ true → 0 ≡ firstOf (refuseIf (not b) n ∷ [])
 check-holds b n e = answer-last (rw e)
+
+-- one check, by an answer to its test that holds, and by one that fails
+pub check-none : (n : ℕ) {answer b : Bool} → answer ≡ b → answer ≡ true → 0 ≡ refuseIf (not b) n
+check-none n e t = rw (sym e ∙ t)
+
+pub check-met : (n : ℕ) {answer b : Bool} → answer ≡ b → answer ≡ false → n ≡ refuseIf (not b) n
+check-met n e f = rw (sym e ∙ f)
 
 -- three tests: the first, the second, the third that fails; all hold
 pub fails-first : (a b c : Bool) → a ≡ false → (a && (b && c)) ≡ false
@@ -34,6 +42,69 @@ fails-third a b c d e f = rw (d, e, f)
 pub all-hold : (a b c : Bool) → a ≡ true → b ≡ true → c ≡ true → (a && (b && c)) ≡ true
 all-hold a b c d e f = rw (d, e, f)
 
+-- a check that gave 0
+check-passed : (b : Bool) (n : ℕ) → refuseIf (not b) (suc n) ≡ 0 → b ≡ true
+check-passed b n e = not-false b (refuse-none (not b) n e)
+
+-- three checks of one number are one check of three tests
+three-checks : (n : ℕ) (a b c : Bool)
+    → firstOf (refuseIf (not a) (suc n) ∷ (refuseIf (not b) (suc n) ∷ (refuseIf (not c) (suc n) ∷ [])))
+    ≡ firstOf (refuseIf (not (a && (b && c))) (suc n) ∷ [])
+unfolding firstOf
+three-checks n false b c = refl
+three-checks n true false c = refl
+three-checks n true true false = refl
+three-checks n true true true = refl
+
+-- so check 4 of the three stores is whether all lengths fit, and check 5 whether all stores are sound
+pub lengths-are : (p : Partitioning) (outer inner rows : ℕ)
+    → lengthsNumber p outer inner rows ≡ firstOf (planNumber p ∷ (refuseIf (not (fitsAll p outer inner rows)) 4 ∷ []))
+unfolding lengthsNumber tuplesLength rowsLength fitsAll firstOf
+lengths-are p outer inner rows =
+    ap (orElse (planNumber p)) (three-checks 3 (fitsTuples p outer) (fitsTuples p inner) (fitsRows p rows))
+
+pub stores-are : (p : Partitioning) (s : Stores)
+    → storeNumber p s ≡ firstOf (openNumber p s ∷ (refuseIf (not (sound p s)) 5 ∷ []))
+unfolding storeNumber tuplesUnsound rowsUnsound sound firstOf
+stores-are p s =
+    ap (orElse (openNumber p s))
+    (three-checks 4 (soundTuples p (s .outer)) (soundTuples p (s .inner)) (soundRows p (s .rows)))
+
+-- checks 4 and 5 of one store: 0 exactly if its length fits, if it is sound
+module _ (p : Partitioning) (n : ℕ) where
+  pub tuples-fit : tuplesLength p n ≡ 0 → fitsTuples p n ≡ true
+  unfolding tuplesLength
+  tuples-fit e = check-passed (fitsTuples p n) 3 e
+
+  pub fit-tuples : fitsTuples p n ≡ true → tuplesLength p n ≡ 0
+  unfolding tuplesLength
+  fit-tuples h = rw h
+
+  pub rows-fit : rowsLength p n ≡ 0 → fitsRows p n ≡ true
+  unfolding rowsLength
+  rows-fit e = check-passed (fitsRows p n) 3 e
+
+  pub fit-rows : fitsRows p n ≡ true → rowsLength p n ≡ 0
+  unfolding rowsLength
+  fit-rows h = rw h
+
+module _ (p : Partitioning) (ws : List ℕ) where
+  pub tuples-sound : tuplesUnsound p ws ≡ 0 → soundTuples p ws ≡ true
+  unfolding tuplesUnsound
+  tuples-sound e = check-passed (soundTuples p ws) 4 e
+
+  pub sound-tuples : soundTuples p ws ≡ true → tuplesUnsound p ws ≡ 0
+  unfolding tuplesUnsound
+  sound-tuples h = rw h
+
+  pub rows-sound : rowsUnsound p ws ≡ 0 → soundRows p ws ≡ true
+  unfolding rowsUnsound
+  rows-sound e = check-passed (soundRows p ws) 4 e
+
+  pub sound-rows : soundRows p ws ≡ true → rowsUnsound p ws ≡ 0
+  unfolding rowsUnsound
+  sound-rows h = rw h
+
 -- what checks 1 to 4 say where they pass
 pub record Fitting (p : Partitioning) (o i r : ℕ) : Type 0 where
   pub legal : planNumber p ≡ 0
@@ -42,20 +113,17 @@ pub record Fitting (p : Partitioning) (o i r : ℕ) : Type 0 where
   pub rows : fitsRows p r ≡ true
 
 pub fitting : (p : Partitioning) (outer inner rows : ℕ) → lengthsNumber p outer inner rows ≡ 0 → Fitting p outer inner rows
-unfolding lengthsNumber fitsAll
+unfolding lengthsNumber
 fitting p outer inner rows e =
     let a = first-none (planNumber p) _ e in
-    let b = first-none (refuseIf (not (fitsAll p outer inner rows)) 4) [] (a .1) in
-    let f = not-false (fitsAll p outer inner rows) (refuse-none (not (fitsAll p outer inner rows)) 3 (b .0)) in
+    let o = first-none (tuplesLength p outer) _ (a .1) in
+    let i = first-none (tuplesLength p inner) _ (o .1) in
+    let r = first-none (rowsLength p rows) [] (i .1) in
     record {
       legal = a .0;
-      outer = and-left (fitsTuples p outer) (fitsTuples p inner && fitsRows p rows) f;
-      inner =
-          and-left (fitsTuples p inner) (fitsRows p rows)
-          (and-right (fitsTuples p outer) (fitsTuples p inner && fitsRows p rows) f);
-      rows =
-          and-right (fitsTuples p inner) (fitsRows p rows)
-          (and-right (fitsTuples p outer) (fitsTuples p inner && fitsRows p rows) f);
+      outer = tuples-fit p outer (o .0);
+      inner = tuples-fit p inner (i .0);
+      rows = rows-fit p rows (r .0);
     }
 
 -- and checks 1 to 5
@@ -66,22 +134,15 @@ pub record Ready (p : Partitioning) (s : Stores) : Type 0 where
   pub rows : soundRows p (s .rows) ≡ true
 
 pub ready : (p : Partitioning) (s : Stores) → storeNumber p s ≡ 0 → Ready p s
-unfolding storeNumber sound
+unfolding storeNumber
 ready p s e =
-    let a = first-none (lengthsNumber p (length (s .outer)) (length (s .inner)) (length (s .rows))) _ e in
-    let b = first-none (refuseIf (not (sound p s)) 5) [] (a .1) in
-    let f = not-false (sound p s) (refuse-none (not (sound p s)) 4 (b .0)) in
+    let a = first-none (openNumber p s) _ e in
+    let o = first-none (tuplesUnsound p (s .outer)) _ (a .1) in
+    let i = first-none (tuplesUnsound p (s .inner)) _ (o .1) in
+    let r = first-none (rowsUnsound p (s .rows)) [] (i .1) in
     record {
       fits = fitting p (length (s .outer)) (length (s .inner)) (length (s .rows)) (a .0);
-      outer = and-left (soundTuples p (s .outer)) (soundTuples p (s .inner) && soundRows p (s .rows)) f;
-      inner =
-          and-left (soundTuples p (s .inner)) (soundRows p (s .rows))
-          (and-right (soundTuples p (s .outer)) (soundTuples p (s .inner) && soundRows p (s .rows)) f);
-      rows =
-          and-right (soundTuples p (s .inner)) (soundRows p (s .rows))
-          (and-right (soundTuples p (s .outer)) (soundTuples p (s .inner) && soundRows p (s .rows)) f);
+      outer = tuples-sound p (s .outer) (o .0);
+      inner = tuples-sound p (s .inner) (i .0);
+      rows = rows-sound p (s .rows) (r .0);
     }
-
--- a store that fits passes its test of soundness exactly if it is sound
-pub sound-is : (fits sound answer : Bool) → fits ≡ true → answer ≡ (fits && sound) → answer ≡ sound
-sound-is fits sound answer h e = e ∙ rw h

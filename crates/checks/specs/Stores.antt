@@ -1,10 +1,13 @@
--- The three stores, the checks that every call makes of plan and stores, and an answer without counts.
+-- The three stores, the checks 4 and 5 of each by itself, the checks of plan, stores and tuple in the table's order, and what
+-- an answer says.
 use mathlib.Core.Bool.{Bool, not, _&&_}
 use mathlib.Core.List.{List, [], _∷_}
 use mathlib.Core.Path.{_≡_}
 use Prim.Native.Nat.{ℕ}
 use lib.ListN.{length}
 use Rattle.lists.specs.Choice.{refuseIf, firstOf}
+use Rattle.interval.specs.Tuple.{tupleNumber}
+use Rattle.interval.specs.declared.tuple.Tuple.{Tuple}
 use Rattle.plan.specs.Plan.{planNumber}
 use Rattle.plan.specs.declared.Partitioning.{Partitioning}
 use Rattle.store.specs.Store.{fitsTuples, fitsRows, soundTuples, soundRows}
@@ -30,16 +33,41 @@ fits p s = fitsAll p (length (s .outer)) (length (s .inner)) (length (s .rows))
 unfoldable pub sound : Partitioning → Stores → Bool
 sound p s = soundTuples p (s .outer) && (soundTuples p (s .inner) && soundRows p (s .rows))
 
--- checks 1 to 4, and 1 to 5, in the table's order
+-- check 4 of one store, by its length: it is not what the plan gives
+unfoldable pub tuplesLength : Partitioning → ℕ → ℕ
+tuplesLength p n = refuseIf (not (fitsTuples p n)) 4
+
+unfoldable pub rowsLength : Partitioning → ℕ → ℕ
+rowsLength p n = refuseIf (not (fitsRows p n)) 4
+
+-- check 5 of one store: it is not sound
+unfoldable pub tuplesUnsound : Partitioning → List ℕ → ℕ
+tuplesUnsound p ws = refuseIf (not (soundTuples p ws)) 5
+
+unfoldable pub rowsUnsound : Partitioning → List ℕ → ℕ
+rowsUnsound p ws = refuseIf (not (soundRows p ws)) 5
+
+-- checks 1 to 4, 1 to 5, and 1 to 8 of a change, in the table's order (proofs/Checks: what they say of fitsAll and of sound)
 unfoldable pub lengthsNumber : Partitioning → ℕ → ℕ → ℕ → ℕ
-lengthsNumber p outer inner rows = firstOf (planNumber p ∷ (refuseIf (not (fitsAll p outer inner rows)) 4 ∷ []))
+lengthsNumber p outer inner rows =
+    firstOf (planNumber p ∷ (tuplesLength p outer ∷ (tuplesLength p inner ∷ (rowsLength p rows ∷ []))))
 
 abbrev pub openNumber : Partitioning → Stores → ℕ
 openNumber p s = lengthsNumber p (length (s .outer)) (length (s .inner)) (length (s .rows))
 
 unfoldable pub storeNumber : Partitioning → Stores → ℕ
-storeNumber p s = firstOf (openNumber p s ∷ (refuseIf (not (sound p s)) 5 ∷ []))
+storeNumber p s =
+    firstOf
+    (openNumber p s
+    ∷ (tuplesUnsound p (s .outer) ∷ (tuplesUnsound p (s .inner) ∷ (rowsUnsound p (s .rows) ∷ []))))
+
+unfoldable pub changeNumber : Partitioning → Tuple → Stores → ℕ
+changeNumber p t s = firstOf (storeNumber p s ∷ (tupleNumber t ∷ []))
 
 -- an answer of that number, with "both 0": the two counts
 abbrev pub Says : Answer → ℕ → Type 0
 Says a n = (a .number ≡ n) × ((a .changed ≡ 0) × (a .examined ≡ 0))
+
+-- an accepted answer with these counts
+abbrev pub Counts : Answer → ℕ → ℕ → Type 0
+Counts a changed examined = (a .number ≡ 0) × ((a .changed ≡ changed) × (a .examined ≡ examined))

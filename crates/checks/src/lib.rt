@@ -1,7 +1,13 @@
-// The checks that every call makes of plan and stores, 1 to 5, over the three stores, and what a call answers.
-// The definitions are in specs/Stores.
+// The checks of plan, stores and tuple, 1 to 8, each of one store by itself and in the table's order over the three stores, and
+// what a call answers. The definitions are in specs/Stores.
+ghost use mathlib.Core.Bool.{true};
 ghost use mathlib.Core.Path.{_≡_};
-ghost use Rattle.checks.specs.Stores.{stores, lengthsNumber, storeNumber, Says};
+ghost use lib.ListN.{length};
+ghost use Rattle.plan.specs.Plan.{planNumber};
+ghost use Rattle.store.specs.Store.{fitsTuples, fitsRows};
+ghost use Rattle.checks.specs.Stores.{tuplesLength, rowsLength, tuplesUnsound, rowsUnsound};
+ghost use Rattle.checks.specs.Stores.{stores, lengthsNumber, storeNumber, changeNumber, Says, Counts};
+use interval::tuple::Tuple;
 use plan::Partitioning;
 
 // What a call answers: the refusal number (0: accepted) and two counts.
@@ -11,7 +17,7 @@ pub struct Answer {
     pub examined: u64,
 }
 
-// A refusal by that number; 0: accepted, with nothing to count.
+// A refusal by that number: both counts are 0.
 pub fn refused(number: u64) -> Answer
     ensures { λ r. ⌜ Says r number ⌝ }
 {
@@ -22,6 +28,49 @@ pub fn refused(number: u64) -> Answer
     }
 }
 
+// Accepted, with these counts.
+pub fn accepted(changed: u64, examined: u64) -> Answer
+    ensures { λ r. ⌜ Counts r changed examined ⌝ }
+{
+    Answer {
+        number: 0,
+        changed,
+        examined,
+    }
+}
+
+// Check 4 of a tuple store of that length: 4, or 0 if it is what a legal plan gives.
+pub fn tuples_length(p: Partitioning, len: usize) -> u64
+    requires { ⌜ planNumber p ≡ 0 ⌝ }
+    ensures { λ r. ⌜ r ≡ tuplesLength p len ⌝ }
+{
+    if store::fits_tuples(p, len) { 0 } else { 4 }
+}
+
+// Check 4 of the rows store.
+pub fn rows_length(p: Partitioning, len: usize) -> u64
+    requires { ⌜ planNumber p ≡ 0 ⌝ }
+    ensures { λ r. ⌜ r ≡ rowsLength p len ⌝ }
+{
+    if store::fits_rows(p, len) { 0 } else { 4 }
+}
+
+// Check 5 of a tuple store that passed check 4: 5, or 0 if it is sound.
+pub fn tuples_unsound(p: Partitioning, ws: &[u64]) -> u64
+    requires { ⌜ fitsTuples p (length (now ws)) ≡ true ⌝ }
+    ensures { λ r. ⌜ r ≡ tuplesUnsound p (now (ws .entry)) ⌝ }
+{
+    if soundness::sound_tuples(p, ws) { 0 } else { 5 }
+}
+
+// Check 5 of the rows store.
+pub fn rows_unsound(p: Partitioning, ws: &[u64]) -> u64
+    requires { ⌜ fitsRows p (length (now ws)) ≡ true ⌝ }
+    ensures { λ r. ⌜ r ≡ rowsUnsound p (now (ws .entry)) ⌝ }
+{
+    if soundness::sound_rows(p, ws) { 0 } else { 5 }
+}
+
 // Checks 1 to 4, for stores of these lengths.
 pub fn lengths_number(p: Partitioning, outer: usize, inner: usize, rows: usize) -> u64
     ensures { λ r. ⌜ r ≡ lengthsNumber p outer inner rows ⌝ }
@@ -30,16 +79,15 @@ pub fn lengths_number(p: Partitioning, outer: usize, inner: usize, rows: usize) 
     if number != 0 {
         return number;
     }
-    if !store::fits_tuples(p, outer) {
-        return 4;
+    let first = tuples_length(p, outer);
+    if first != 0 {
+        return first;
     }
-    if !store::fits_tuples(p, inner) {
-        return 4;
+    let second = tuples_length(p, inner);
+    if second != 0 {
+        return second;
     }
-    if !store::fits_rows(p, rows) {
-        return 4;
-    }
-    0
+    rows_length(p, rows)
 }
 
 // Checks 1 to 5.
@@ -50,14 +98,24 @@ pub fn store_number(p: Partitioning, outer: &[u64], inner: &[u64], rows: &[u64])
     if number != 0 {
         return number;
     }
-    if !soundness::sound_tuples(p, outer) {
-        return 5;
+    let outer_unsound = tuples_unsound(p, outer);
+    if outer_unsound != 0 {
+        return outer_unsound;
     }
-    if !soundness::sound_tuples(p, inner) {
-        return 5;
+    let inner_unsound = tuples_unsound(p, inner);
+    if inner_unsound != 0 {
+        return inner_unsound;
     }
-    if !soundness::sound_rows(p, rows) {
-        return 5;
+    rows_unsound(p, rows)
+}
+
+// Checks 1 to 8 of a change: those of plan and stores, then those of its tuple.
+pub fn change_number(p: Partitioning, t: Tuple, outer: &[u64], inner: &[u64], rows: &[u64]) -> u64
+    ensures { λ r. ⌜ r ≡ changeNumber p t (stores (now (outer .entry)) (now (inner .entry)) (now (rows .entry))) ⌝ }
+{
+    let unsound = store_number(p, outer, inner, rows);
+    if unsound != 0 {
+        return unsound;
     }
-    0
+    interval::tuple::tuple_number(t)
 }

@@ -9,6 +9,11 @@ use crate::time::Interval;
 // The largest item number.
 pub const ITEM_END: u64 = 999_999;
 
+// The words of a tuple, and of a row.
+pub const TUPLE_WIDTH: usize = 4;
+
+pub const ROW_WIDTH: usize = 5;
+
 // A tuple of document 01: a drawing or a spot (002: a tuple of the outer or the inner relation).
 pub struct Tuple {
     pub label: u64,

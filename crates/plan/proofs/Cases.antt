@@ -1,5 +1,5 @@
--- Closed cases that compute, from the definitions that the promises cite: document 01's P10, the intervals of its
--- lanes, and each of checks 1 to 3 at its first illegal value.
+-- Closed cases that compute, from the definitions that the promises cite: document 01's P10, where its lanes
+-- start, and each of checks 1 to 3 at its first illegal value.
 -- Assumes nothing.
 use mathlib.Core.Bool.{true, false}
 use mathlib.Core.List.{List, [], _∷_, _++_, map}
@@ -8,11 +8,8 @@ use Prim.Native.Nat.{ℕ, _-_}
 use lib.ListN.{length, replicate}
 use Rattle.lists.specs.Choice.{firstOf}
 use Rattle.lists.specs.Members.{below}
-use Rattle.interval.specs.Time.{span}
 use Rattle.interval.specs.declared.time.Chronon.{Chronon}
-use Rattle.interval.specs.declared.time.Interval.{Interval}
-use Rattle.plan.specs.Plan.{cutsOf, cover, planNumber, legalPlan, homeOf, home}
-use Rattle.plan.specs.Plan.{startOf, intervalOf, boundsAt}
+use Rattle.plan.specs.Plan.{cutsOf, cover, planNumber, legalPlan, homeOf, home, startOf}
 use Rattle.plan.specs.declared.Partitioning.{Partitioning}
 
 -- a plan of these cuts, in 64 places; those beyond hold 7
@@ -52,27 +49,24 @@ homes-hold : Homes homes
 unfolding homes Homes cutsOf homeOf home
 homes-hold = (refl, (refl, (refl, (refl, (refl, (refl, (refl, tt)))))))
 
--- each partition's interval, and none past the last; a plan that is not legal has none
-intervals : List (Partitioning × ℕ × List Interval)
-intervals =
-    (p10, 0, span 0 34 ∷ [])
-    ∷ ((p10, 1, span 35 40 ∷ [])
-    ∷ ((p10, 2, span 41 99999999 ∷ [])
-    ∷ ((p10, 3, [])
-    ∷ ((one, 0, span 0 99999999 ∷ [])
-    ∷ ((one, 1, [])
-    ∷ ((plan 64 full 1 1, 0, span 0 0 ∷ [])
-    ∷ ((plan 64 full 1 1, 63, span 63 99999999 ∷ [])
-    ∷ ((plan 2 (34 ∷ (99999999 ∷ [])) 0 16, 0, [])
-    ∷ []))))))))
+-- where each partition starts: the first at 0, the others one chronon after the one before
+starts : List (Partitioning × ℕ × ℕ)
+starts =
+    (p10, 0, 0)
+    ∷ ((p10, 1, 35)
+    ∷ ((p10, 2, 41)
+    ∷ ((one, 0, 0)
+    ∷ ((plan 64 full 1 1, 0, 0)
+    ∷ ((plan 64 full 1 1, 63, 63)
+    ∷ [])))))
 
-Intervals : List (Partitioning × ℕ × List Interval) → Type 0
-Intervals [] = Unit {0}
-Intervals (c ∷ cs) = (boundsAt (c .0) (c .1) ≡ c .2) × Intervals cs
+Starts : List (Partitioning × ℕ × ℕ) → Type 0
+Starts [] = Unit {0}
+Starts (c ∷ cs) = (startOf (cutsOf (c .0)) (c .1) ≡ c .2) × Starts cs
 
-intervals-hold : Intervals intervals
-unfolding intervals Intervals firstOf cutsOf cover planNumber legalPlan startOf intervalOf boundsAt
-intervals-hold = (refl, (refl, (refl, (refl, (refl, (refl, (refl, (refl, (refl, tt)))))))))
+starts-hold : Starts starts
+unfolding starts Starts cutsOf startOf
+starts-hold = (refl, (refl, (refl, (refl, (refl, (refl, tt))))))
 
 -- a plan and its number
 Checks : List (Partitioning × ℕ) → Type 0

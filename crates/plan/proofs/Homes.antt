@@ -1,9 +1,8 @@
--- Laws of plans: cuts that cover the calendar, the partition of a chronon, legal plans, the interval of a partition.
+-- Laws of plans: cuts that cover the calendar, the partition of a chronon, legal plans.
 -- In order: covering cuts; the partition of a chronon, and when it is partition i; the order of partitions; an interval
--- that a partition does not touch; where a partition starts; the cuts of a plan; a legal plan; the check that answers;
--- the interval of a partition.
+-- that a partition does not touch; where a partition starts; the cuts of a plan; a legal plan; the check that answers.
 -- Assumes nothing.
-use mathlib.Core.Bool.{Bool, true, false, not, _&&_, _||_, false≢true, and-false}
+use mathlib.Core.Bool.{Bool, true, false, not, _&&_, _||_, false≢true}
 use mathlib.Core.List.{List, [], _∷_}
 use mathlib.Core.Logic.{_⊎_, inl, inr, ⊎-elim}
 use mathlib.Core.Path.{_≡_, sym, _∙_, ap}
@@ -15,14 +14,14 @@ use lib.ListN.{length, getD, take, length-take, length-map, List·getD-map}
 use lib.Seq.{getD-take}
 use lib.Dec.{leb, ltb, eqb}
 use borrow.Author.Tests.{leb-true, leb-false, le-leb, lt-leb, ltb-true, ltb-false, lt-ltb, le-ltb, eqb-true, eq-eqb}
-use borrow.Author.Tests.{ne-eqb, not-false}
+use borrow.Author.Tests.{not-false}
 use Rattle.lists.specs.Choice.{refuseIf, firstOf}
 use Rattle.lists.proofs.Choice.{bool-cases, and-left, and-right, and-both, same-test, pick-true, pick-false}
 use Rattle.lists.proofs.Choice.{or-left, or-right, or-none, or-neither-left, or-neither-right, refuse-none, first-none}
-use Rattle.interval.specs.Time.{calendarEnd, span}
+use Rattle.interval.specs.Time.{calendarEnd}
 use Rattle.interval.specs.declared.time.Chronon.{Chronon}
 use Rattle.plan.specs.Plan.{outside, numbers, cutsOf, cover, planNumber, legalPlan, homeOf, startOf}
-use Rattle.plan.specs.Plan.{intervalOf, boundsAt}
+use Rattle.plan.specs.Plan.{mostPartitions, mostTuples, mostRows}
 use Rattle.plan.specs.declared.Partitioning.{Partitioning}
 
 -- one number is at most another, or greater
@@ -231,12 +230,12 @@ cut-at p i l = number-at (p .count) (p .lasts) i l
 -- what the checks of a plan ask
 pub record LegalPlan (p : Partitioning) : Type 0 where
   pub least : 1 ≤ p .count
-  pub most : p .count ≤ 64
+  pub most : p .count ≤ mostPartitions
   pub covered : cover (cutsOf p) ≡ true
   pub tuples-least : 1 ≤ p .tuples
-  pub tuples-most : p .tuples ≤ 512
+  pub tuples-most : p .tuples ≤ mostTuples
   pub rows-least : 1 ≤ p .rows
-  pub rows-most : p .rows ≤ 4096
+  pub rows-most : p .rows ≤ mostRows
 
 -- a number that is not outside its bounds lies within them
 pub within-is : (least most n : ℕ) → outside least most n ≡ false → (least ≤ n) × (n ≤ most)
@@ -258,13 +257,13 @@ pub is-above : (least most n : ℕ) → most < n → outside least most n ≡ tr
 is-above least most n l = or-right (ltb n least) (ltb most n) (lt-ltb most n l)
 
 -- where check 3 does not apply
-sizes-are : (p : Partitioning) → refuseIf (outside 1 512 (p .tuples) || outside 1 4096 (p .rows)) 3 ≡ 0
-    → ((1 ≤ p .tuples) × (p .tuples ≤ 512)) × ((1 ≤ p .rows) × (p .rows ≤ 4096))
+sizes-are : (p : Partitioning) → refuseIf (outside 1 mostTuples (p .tuples) || outside 1 mostRows (p .rows)) 3 ≡ 0
+    → ((1 ≤ p .tuples) × (p .tuples ≤ mostTuples)) × ((1 ≤ p .rows) × (p .rows ≤ mostRows))
 sizes-are p e =
-    let t : Bool = outside 1 512 (p .tuples) in
-    let r : Bool = outside 1 4096 (p .rows) in
+    let t : Bool = outside 1 mostTuples (p .tuples) in
+    let r : Bool = outside 1 mostRows (p .rows) in
     let h = refuse-none (t || r) 2 e in
-    (within-is 1 512 (p .tuples) (or-neither-left t r h), within-is 1 4096 (p .rows) (or-neither-right t r h))
+    (within-is 1 mostTuples (p .tuples) (or-neither-left t r h), within-is 1 mostRows (p .rows) (or-neither-right t r h))
 
 -- a plan to which no check applies
 pub legal-plan : (p : Partitioning) → planNumber p ≡ 0 → LegalPlan p
@@ -272,7 +271,7 @@ unfolding planNumber
 legal-plan p h =
     let a = first-none _ _ h in
     let b = first-none _ _ (a .1) in
-    let count = within-is 1 64 (p .count) (refuse-none (outside 1 64 (p .count)) 0 (a .0)) in
+    let count = within-is 1 mostPartitions (p .count) (refuse-none (outside 1 mostPartitions (p .count)) 0 (a .0)) in
     let sizes = sizes-are p (first-none _ _ (b .1) .0) in
     record {
       least = count .0;
@@ -288,9 +287,9 @@ legal-plan p h =
 pub plan-legal : (p : Partitioning) → LegalPlan p → planNumber p ≡ 0
 unfolding planNumber firstOf
 plan-legal p l =
-    let count = is-within 1 64 (p .count) (l .least) (l .most) in
-    let tuples = is-within 1 512 (p .tuples) (l .tuples-least) (l .tuples-most) in
-    let rows = is-within 1 4096 (p .rows) (l .rows-least) (l .rows-most) in
+    let count = is-within 1 mostPartitions (p .count) (l .least) (l .most) in
+    let tuples = is-within 1 mostTuples (p .tuples) (l .tuples-least) (l .tuples-most) in
+    let rows = is-within 1 mostRows (p .rows) (l .rows-least) (l .rows-most) in
     rw (count, l .covered, tuples, rows)
 
 -- a plan's number 0 as a test that holds
@@ -307,46 +306,17 @@ test-plan-legal p h = eqb-true (planNumber p) 0 h
 
 module _ (p : Partitioning) where
   -- check 1
-  pub count-answers : outside 1 64 (p .count) ≡ true → 1 ≡ planNumber p
+  pub count-answers : outside 1 mostPartitions (p .count) ≡ true → 1 ≡ planNumber p
   unfolding planNumber firstOf
   count-answers e = rw e
 
   -- check 2, where check 1 does not apply
-  pub cuts-answer : outside 1 64 (p .count) ≡ false → cover (cutsOf p) ≡ false → 2 ≡ planNumber p
+  pub cuts-answer : outside 1 mostPartitions (p .count) ≡ false → cover (cutsOf p) ≡ false → 2 ≡ planNumber p
   unfolding planNumber firstOf
   cuts-answer e h = rw (e, h)
 
   -- check 3, where neither does
-  pub sizes-answer : outside 1 64 (p .count) ≡ false → cover (cutsOf p) ≡ true
-      → (outside 1 512 (p .tuples) || outside 1 4096 (p .rows)) ≡ true → 3 ≡ planNumber p
+  pub sizes-answer : outside 1 mostPartitions (p .count) ≡ false → cover (cutsOf p) ≡ true
+      → (outside 1 mostTuples (p .tuples) || outside 1 mostRows (p .rows)) ≡ true → 3 ≡ planNumber p
   unfolding planNumber firstOf
   sizes-answer e h g = rw (e, h, g)
-
--- ---- the interval of a partition
-
-module _ (p : Partitioning) (i : ℕ) where
-  -- a plan that is not legal has none
-  pub bounds-illegal : (planNumber p ≡ 0 → ⊥) → boundsAt p i ≡ []
-  unfolding boundsAt legalPlan
-  bounds-illegal h = rw (ne-eqb (planNumber p) 0 h)
-
-  -- there is none past the last partition
-  pub bounds-past : p .count ≤ i → boundsAt p i ≡ []
-  unfolding boundsAt
-  bounds-past l = rw (le-ltb i (p .count) l, and-false)
-
-  -- a legal plan's partition has its own
-  pub bounds-are : planNumber p ≡ 0 → i < p .count → boundsAt p i ≡ intervalOf p i ∷ []
-  unfolding boundsAt
-  bounds-are h l = rw (plan-legal-test p h, lt-ltb i (p .count) l)
-
-  -- the first's, as the code reads it: from 0
-  pub interval-first : i ≡ 0 → i < p .count → intervalOf p i ≡ span 0 (readAt (p .lasts) i)
-  unfolding intervalOf startOf
-  interval-first e l = rw (cut-at p i l) (ap (λ (k : ℕ). span (startOf (cutsOf p) k) (readAt (p .lasts) i)) e)
-
-  -- another's: from one chronon after the cut before
-  pub interval-after : 0 < i → i < p .count
-      → intervalOf p i ≡ span (readAt (p .lasts) (i - 1) + 1) (readAt (p .lasts) i)
-  unfolding intervalOf
-  interval-after g l = rw (cut-at p i l, start-after (cutsOf p) i g, cut-at p (i - 1) (omega arith))

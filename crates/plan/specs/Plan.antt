@@ -7,14 +7,20 @@ use Prim.Native.Nat.{ℕ, zero, suc, _+_}
 use lib.ListN.{length, getD, take, drop}
 use lib.Dec.{leb, ltb, eqb}
 use Rattle.lists.specs.Choice.{pick, refuseIf, firstOf}
-use Rattle.interval.specs.Time.{calendarEnd, span}
+use Rattle.interval.specs.Time.{calendarEnd}
 use Rattle.interval.specs.declared.time.Chronon.{Chronon}
-use Rattle.interval.specs.declared.time.Interval.{Interval}
 use Rattle.plan.specs.declared.Partitioning.{Partitioning}
-use Rattle.plan.specs.declared.Bounds.{Bounds}
-use Rattle.plan.specs.declared.Bounds.the-variants.{Within, Outside}
 
 -- "a lane count n (1 to 64) .. a tuple capacity (1 to 512) and a row capacity (1 to 4,096)"
+abbrev pub mostPartitions : ℕ
+mostPartitions = 64
+
+abbrev pub mostTuples : ℕ
+mostTuples = 512
+
+abbrev pub mostRows : ℕ
+mostRows = 4096
+
 abbrev pub outside : ℕ → ℕ → ℕ → Bool
 outside least most n = ltb n least || ltb most n
 
@@ -35,9 +41,9 @@ cover (c ∷ (e ∷ cs)) = ltb c e && cover (e ∷ cs)
 unfoldable pub planNumber : Partitioning → ℕ
 planNumber p =
     firstOf
-    (refuseIf (outside 1 64 (p .count)) 1
+    (refuseIf (outside 1 mostPartitions (p .count)) 1
     ∷ (refuseIf (not (cover (cutsOf p))) 2
-    ∷ (refuseIf (outside 1 512 (p .tuples) || outside 1 4096 (p .rows)) 3
+    ∷ (refuseIf (outside 1 mostTuples (p .tuples) || outside 1 mostRows (p .rows)) 3
     ∷ [])))
 
 -- "A plan is legal if none of the plan's own checks below applies to it."
@@ -57,10 +63,6 @@ unfoldable pub startOf : List ℕ → ℕ → ℕ
 startOf cs zero = 0
 startOf cs (suc i) = getD cs i 0 + 1
 
--- the interval of partition i: from its first chronon to its last
-unfoldable pub intervalOf : Partitioning → ℕ → Interval
-intervalOf p i = span (startOf (cutsOf p) i) (getD (cutsOf p) i 0)
-
 -- "Recut replaces the plan's last minutes, n and capacities kept"; "those beyond n are ignored, and recut keeps what the old
 -- plan has there"
 unfoldable pub withCuts : Partitioning → List Chronon → Partitioning
@@ -70,12 +72,3 @@ withCuts p new = record {
   tuples = p .tuples;
   rows = p .rows;
 }
-
--- the interval that an answer stands for, if any
-abbrev pub boundsOf : Bounds → List Interval
-boundsOf (Within v) = v ∷ []
-boundsOf Outside = []
-
--- the interval of a partition, where the plan is legal and has that partition
-unfoldable pub boundsAt : Partitioning → ℕ → List Interval
-boundsAt p i = pick (legalPlan p && ltb i (p .count)) (intervalOf p i ∷ []) []

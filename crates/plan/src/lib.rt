@@ -1,11 +1,22 @@
-// Partitionings (document 01: plans), by value: their own checks 1 to 3, the partition of a chronon, the interval of a
-// partition. Cost: at most 64 comparisons.
+// Partitionings (document 01: plans), by value: their own checks 1 to 3, the partition of a chronon, a plan with new
+// cuts. Cost: at most a comparison for each place of a plan.
 ghost use mathlib.Core.Path.{_≡_};
 ghost use lib.ListN.{take};
-ghost use Rattle.plan.specs.Plan.{numbers, cover, planNumber, home, withCuts, boundsOf, boundsAt};
+ghost use Rattle.plan.specs.Plan.{numbers, cover, planNumber, home, withCuts};
 use interval::time::CALENDAR_END;
 use interval::time::Chronon;
-use interval::time::Interval;
+
+// The most lanes of a legal plan.
+pub const MOST_PARTITIONS: u64 = 64;
+
+// The most tuples of one of its lanes.
+pub const MOST_TUPLES: u64 = 512;
+
+// The most rows of one of its lanes.
+pub const MOST_ROWS: u64 = 4_096;
+
+// The places that a plan has for last minutes.
+pub const PLACES: usize = MOST_PARTITIONS as usize;
 
 // A lane number of document 01, counted from 0. It is no Chronon: one handed over where the other belongs does not compile.
 pub struct PartitionIndex(pub u64);
@@ -13,26 +24,20 @@ pub struct PartitionIndex(pub u64);
 // A plan of document 01: the lane count, the last minute of each lane, the tuple capacity and the row capacity of a lane.
 pub struct Partitioning {
     pub count: u64,
-    pub lasts: [Chronon; 64],
+    pub lasts: [Chronon; PLACES],
     pub tuples: u64,
     pub rows: u64,
 }
 
-// The interval of a partition, if the plan has it.
-pub enum Bounds {
-    Within(Interval),
-    Outside,
-}
-
 // The first `count` of the last chronons rise strictly and end at the calendar's end.
-pub fn covers(count: u64, lasts: [Chronon; 64]) -> bool
+pub fn covers(count: u64, lasts: [Chronon; PLACES]) -> bool
     ensures { λ r. ⌜ r ≡ cover (take count (numbers lasts)) ⌝ }
 {
     if count < 1 {
         return false;
     }
-    let mut used: u64 = 64;
-    if count < 64 {
+    let mut used = MOST_PARTITIONS;
+    if count < MOST_PARTITIONS {
         used = count;
     }
     let mut i: u64 = 0;
@@ -55,7 +60,7 @@ pub fn plan_number(p: Partitioning) -> u64
     if p.count < 1 {
         return 1;
     }
-    if 64 < p.count {
+    if MOST_PARTITIONS < p.count {
         return 1;
     }
     let lasts = p.lasts;
@@ -65,13 +70,13 @@ pub fn plan_number(p: Partitioning) -> u64
     if p.tuples < 1 {
         return 3;
     }
-    if 512 < p.tuples {
+    if MOST_TUPLES < p.tuples {
         return 3;
     }
     if p.rows < 1 {
         return 3;
     }
-    if 4096 < p.rows {
+    if MOST_ROWS < p.rows {
         return 3;
     }
     0
@@ -82,8 +87,8 @@ pub fn home(p: Partitioning, m: Chronon) -> PartitionIndex
     ensures { λ r. ⌜ r .0 ≡ home p (m .0) ⌝ }
 {
     let lasts = p.lasts;
-    let mut used: u64 = 64;
-    if p.count < 64 {
+    let mut used = MOST_PARTITIONS;
+    if p.count < MOST_PARTITIONS {
         used = p.count;
     }
     let mut i: u64 = 0;
@@ -97,40 +102,14 @@ pub fn home(p: Partitioning, m: Chronon) -> PartitionIndex
     PartitionIndex(i)
 }
 
-// The interval of partition i of a legal plan, from its first chronon to its last.
-pub fn interval_of(p: Partitioning, i: PartitionIndex) -> Bounds
-    ensures { λ r. ⌜ boundsOf r ≡ boundsAt p (i .0) ⌝ }
-{
-    if plan_number(p) != 0 {
-        return Bounds::Outside;
-    }
-    if p.count <= i.0 {
-        return Bounds::Outside;
-    }
-    let lasts = p.lasts;
-    let at = i.0 as usize;
-    let last = lasts[at];
-    if at == 0 {
-        return Bounds::Within(Interval {
-            first: Chronon(0),
-            last,
-        });
-    }
-    let before = lasts[at - 1];
-    Bounds::Within(Interval {
-        first: Chronon(before.0 + 1),
-        last,
-    })
-}
-
 // The plan with new last chronons in its first `count` places, and all else as it was.
-pub fn with_cuts(p: Partitioning, new: [Chronon; 64]) -> Partitioning
+pub fn with_cuts(p: Partitioning, new: [Chronon; PLACES]) -> Partitioning
     ensures { λ r. ⌜ r ≡ withCuts p new ⌝ }
 {
     let mut lasts = p.lasts;
     let mut places = p.count;
-    if 64 < places {
-        places = 64;
+    if MOST_PARTITIONS < places {
+        places = MOST_PARTITIONS;
     }
     let mut i: u64 = 0;
     while i < places {

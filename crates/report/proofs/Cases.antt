@@ -18,6 +18,7 @@ use Rattle.store.specs.Store.{fitsRows, rowAtHome, soundRowPart, soundRows, sto
 use Rattle.lines.specs.Fields.{digitsOf}
 use Rattle.report.specs.Order.{before, sorted}
 use Rattle.report.specs.Text.{rowLine, countLine, partitionText, partitionsText, textOf}
+use Rattle.checks.specs.Stores.{rowsLength, rowsUnsound}
 use Rattle.report.specs.Report.{reportNumber}
 
 -- ---- how a case is written
@@ -151,5 +152,5 @@ checks =
     ∷ []
 
 pub check-cases : checks ≡ 1 ∷ 2 ∷ 4 ∷ 5 ∷ 0 ∷ 4 ∷ []
-unfolding reportNumber planNumber cutsOf cover legalPlan fitsRows soundRows soundRowPart soundPart rowAtHome legalRow rowNumber labelCheck itemCheck validCheck home homeOf firstOf storedRows rowsIn recordsIn counted
+unfolding reportNumber planNumber cutsOf cover legalPlan rowsLength rowsUnsound fitsRows soundRows soundRowPart soundPart rowAtHome legalRow rowNumber labelCheck itemCheck validCheck home homeOf firstOf storedRows rowsIn recordsIn counted
 check-cases = refl

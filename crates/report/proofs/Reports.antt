@@ -1,21 +1,22 @@
 -- The checks of `write`, one after the other, and what it leaves known where they pass; what it answers.
 -- Assumes nothing.
-use mathlib.Core.Bool.{Bool, true, false, not}
 use mathlib.Core.List.{List, [], _∷_}
-use mathlib.Core.Path.{_≡_, refl, sym, ap, _∙_}
+use mathlib.Core.Path.{_≡_, refl, sym, _∙_}
 use Prim.Native.Nat.{ℕ, _≤_, _<_}
 use native.Mathlib.Nat.{zero-add}
 use native.Mathlib.Omega.{arith}
 use lib.Dec.{ltb}
 use lib.ListN.{length}
-use borrow.Author.Tests.{not-false, ltb-false, lt-ltb, le-ltb}
+use borrow.Author.Tests.{ltb-false, lt-ltb, le-ltb}
 use Rattle.lists.specs.Choice.{refuseIf, firstOf}
 use Rattle.lists.proofs.Choice.{first-none, refuse-none, refuse-met, refuse-passed}
 use Rattle.lists.proofs.Choice.{answer-here, answer-next, answer-last}
 use Rattle.plan.specs.Plan.{planNumber}
 use Rattle.plan.specs.declared.Partitioning.{Partitioning}
-use Rattle.store.specs.Store.{rowRoom, fitsRows, soundRows, rowsSound}
+use Rattle.store.specs.Store.{rowRoom, fitsRows}
 use Rattle.store.proofs.StoreLoops.{fit-is}
+use Rattle.checks.specs.Stores.{rowsLength, rowsUnsound}
+use Rattle.checks.proofs.Checks.{rows-fit, rows-sound}
 use Rattle.report.specs.Text.{rowCount, textOf}
 use Rattle.report.specs.Report.{textRoom, reportNumber, SortedStore, ReportWritten}
 use Rattle.report.specs.Steps.{SoundStore, Put}
@@ -29,54 +30,47 @@ module _ (p : Partitioning) (rows : List ℕ) (room : ℕ) where
   unfolding reportNumber
   refuses-plan n e h = answer-here _ e h
 
-  pub refuses-length : planNumber p ≡ 0 → fitsRows p (length rows) ≡ false → 4 ≡ reportNumber p rows room
-  unfolding reportNumber
-  refuses-length l f =
-      answer-next {n = planNumber p} _ refl l
-      (answer-here _ (sym (refuse-met (not (fitsRows p (length rows))) 4 (ap not f))) (λ z. absurd (omega arith)))
-
-  -- the store's soundness, where its length fits
-  pub sound-answer : (answer : Bool) → fitsRows p (length rows) ≡ true → answer ≡ rowsSound p rows
-      → answer ≡ soundRows p rows
-  unfolding rowsSound
-  sound-answer answer f e = e ∙ rw f
-
-  module _ (l : planNumber p ≡ 0) (f : fitsRows p (length rows) ≡ true) where
-    fits-next : (r : ℕ) → r ≡ firstOf (refuseIf (not (soundRows p rows)) 5
-        ∷ (refuseIf (ltb room (textRoom (rowCount p rows))) 4 ∷ [])) → r ≡ reportNumber p rows room
+  module _ (l : planNumber p ≡ 0) where
+    plan-next : (r : ℕ) → r ≡ firstOf (rowsLength p (length rows)
+        ∷ (rowsUnsound p rows ∷ (refuseIf (ltb room (textRoom (rowCount p rows))) 4 ∷ []))) → r ≡ reportNumber p rows room
     unfolding reportNumber
-    fits-next r e =
-        answer-next {n = planNumber p} _ refl l
-        (answer-next {n = refuseIf (not (fitsRows p (length rows))) 4} _ refl
-        (refuse-passed (not (fitsRows p (length rows))) 4 (ap not f)) e)
+    plan-next r e = answer-next {n = planNumber p} _ refl l e
 
-    pub refuses-unsound : soundRows p rows ≡ false → 5 ≡ reportNumber p rows room
-    refuses-unsound s =
-        fits-next 5
-        (answer-here _ (sym (refuse-met (not (soundRows p rows)) 5 (ap not s))) (λ z. absurd (omega arith)))
+    pub refuses-length : (n : ℕ) → n ≡ rowsLength p (length rows) → (n ≡ 0 → ⊥) → n ≡ reportNumber p rows room
+    refuses-length n e h = plan-next n (answer-here _ e h)
 
-    pub sound-store : soundRows p rows ≡ true → SoundStore p rows
-    unfolding fitsRows
-    sound-store s = record { legal = l; long = fit-is p (length rows) (rowRoom p) f .1; sound = s }
+    module _ (f : rowsLength p (length rows) ≡ 0) where
+      fits-next : (r : ℕ) → r ≡ firstOf (rowsUnsound p rows
+          ∷ (refuseIf (ltb room (textRoom (rowCount p rows))) 4 ∷ [])) → r ≡ reportNumber p rows room
+      fits-next r e = plan-next r (answer-next {n = rowsLength p (length rows)} _ refl f e)
 
-    sound-next : (r : ℕ) → soundRows p rows ≡ true
-        → r ≡ firstOf (refuseIf (ltb room (textRoom (rowCount p rows))) 4 ∷ []) → r ≡ reportNumber p rows room
-    sound-next r s e =
-        fits-next r
-        (answer-next {n = refuseIf (not (soundRows p rows)) 5} _ refl
-        (refuse-passed (not (soundRows p rows)) 5 (ap not s)) e)
+      pub refuses-unsound : (n : ℕ) → n ≡ rowsUnsound p rows → (n ≡ 0 → ⊥) → n ≡ reportNumber p rows room
+      refuses-unsound n e h = fits-next n (answer-here _ e h)
 
-    pub refuses-buffer : soundRows p rows ≡ true → room < textRoom (rowCount p rows) → 4 ≡ reportNumber p rows room
-    refuses-buffer s h =
-        sound-next 4 s
-        (answer-last
-        (sym (refuse-met (ltb room (textRoom (rowCount p rows))) 4 (lt-ltb room (textRoom (rowCount p rows)) h))))
+      module _ (s : rowsUnsound p rows ≡ 0) where
+        pub sound-store : SoundStore p rows
+        unfolding fitsRows
+        sound-store = record {
+          legal = l;
+          long = fit-is p (length rows) (rowRoom p) (rows-fit p (length rows) f) .1;
+          sound = rows-sound p rows s;
+        }
 
-    pub passes : soundRows p rows ≡ true → textRoom (rowCount p rows) ≤ room → 0 ≡ reportNumber p rows room
-    passes s h =
-        sound-next 0 s
-        (answer-last
-        (sym (refuse-passed (ltb room (textRoom (rowCount p rows))) 4 (le-ltb room (textRoom (rowCount p rows)) h))))
+        sound-next : (r : ℕ) → r ≡ firstOf (refuseIf (ltb room (textRoom (rowCount p rows))) 4 ∷ [])
+            → r ≡ reportNumber p rows room
+        sound-next r e = fits-next r (answer-next {n = rowsUnsound p rows} _ refl s e)
+
+        pub refuses-buffer : room < textRoom (rowCount p rows) → 4 ≡ reportNumber p rows room
+        refuses-buffer h =
+            sound-next 4
+            (answer-last
+            (sym (refuse-met (ltb room (textRoom (rowCount p rows))) 4 (lt-ltb room (textRoom (rowCount p rows)) h))))
+
+        pub passes : textRoom (rowCount p rows) ≤ room → 0 ≡ reportNumber p rows room
+        passes h =
+            sound-next 0
+            (answer-last
+            (sym (refuse-passed (ltb room (textRoom (rowCount p rows))) 4 (le-ltb room (textRoom (rowCount p rows)) h))))
 
 -- ---- what passed checks leave known
 
@@ -88,14 +82,11 @@ pub passed : (p : Partitioning) (rows : List ℕ) (room : ℕ) → reportNumber 
 unfolding reportNumber
 passed p rows room e =
     let a = first-none (planNumber p) _ e in
-    let b = first-none (refuseIf (not (fitsRows p (length rows))) 4) _ (a .1) in
-    let s = first-none (refuseIf (not (soundRows p rows)) 5) _ (b .1) in
+    let b = first-none (rowsLength p (length rows)) _ (a .1) in
+    let s = first-none (rowsUnsound p rows) _ (b .1) in
     let r = first-none (refuseIf (ltb room (textRoom (rowCount p rows))) 4) [] (s .1) in
     record {
-      store =
-          sound-store p rows room (a .0)
-          (not-false (fitsRows p (length rows)) (refuse-none (not (fitsRows p (length rows))) 3 (b .0)))
-          (not-false (soundRows p rows) (refuse-none (not (soundRows p rows)) 4 (s .0)));
+      store = sound-store p rows room (a .0) (b .0) (s .0);
       roomy =
           ltb-false room (textRoom (rowCount p rows))
           (refuse-none (ltb room (textRoom (rowCount p rows))) 3 (r .0));

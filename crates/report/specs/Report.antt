@@ -1,5 +1,5 @@
 -- The report of a wall's rows: what `write` answers and leaves, in terms of the words and bytes it was lent.
-use mathlib.Core.Bool.{true, not}
+use mathlib.Core.Bool.{true}
 use mathlib.Core.List.{List, [], _∷_, _++_}
 use mathlib.Core.Path.{_≡_}
 use Prim.Native.Nat.{ℕ, _+_, _*_, _≤_, _<_}
@@ -11,7 +11,8 @@ use Rattle.interval.specs.Tuple.{sameRow}
 use Rattle.plan.specs.Plan.{planNumber}
 use Rattle.plan.specs.declared.Partitioning.{Partitioning}
 use Rattle.part.specs.Part.{counted, rowsIn}
-use Rattle.store.specs.Store.{rowPart, fitsRows, soundRows}
+use Rattle.store.specs.Store.{rowPart, soundRows}
+use Rattle.checks.specs.Stores.{rowsLength, rowsUnsound}
 use Rattle.report.specs.Order.{sorted}
 use Rattle.report.specs.Text.{rowCount, textOf}
 use Rattle.report.specs.declared.Reported.{Reported}
@@ -26,8 +27,8 @@ unfoldable pub reportNumber : Partitioning → List ℕ → ℕ → ℕ
 reportNumber p rows room =
     firstOf
     (planNumber p
-    ∷ (refuseIf (not (fitsRows p (length rows))) 4
-    ∷ (refuseIf (not (soundRows p rows)) 5 ∷ (refuseIf (ltb room (textRoom (rowCount p rows))) 4 ∷ []))))
+    ∷ (rowsLength p (length rows)
+    ∷ (rowsUnsound p rows ∷ (refuseIf (ltb room (textRoom (rowCount p rows))) 4 ∷ []))))
 
 -- the rows store before and after: each lane holds its rows, now sorted ("Rows may stand in any order in a lane"), and
 -- every other word is as it was

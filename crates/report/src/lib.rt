@@ -44,11 +44,13 @@ fn report_number(p: Partitioning, rows: &[u64], room: usize) -> u64
     if number != 0 {
         return number;
     }
-    if !store::fits_rows(p, rows.len()) {
-        return 4;
+    let long = checks::rows_length(p, rows.len());
+    if long != 0 {
+        return long;
     }
-    if !soundness::sound_rows(p, rows) {
-        return 5;
+    let unsound = checks::rows_unsound(p, rows);
+    if unsound != 0 {
+        return unsound;
     }
     if room < 16 + 48 * count_rows(p, rows) as usize {
         return 4;

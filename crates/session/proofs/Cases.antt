@@ -15,7 +15,8 @@ use Rattle.part.specs.Part.{counted, soundPart, recordsIn, tuplesIn, rowsIn}
 use Rattle.store.specs.Store.{fitsTuples, fitsRows, soundTuples, soundRows, soundTuplePart, soundRowPart}
 use Rattle.store.specs.Store.{storedTuples, rowsAt}
 use Rattle.rows.specs.Join.{madeWith}
-use Rattle.checks.specs.Stores.{Stores, stores, fitsAll, lengthsNumber, storeNumber, sound}
+use Rattle.checks.specs.Stores.{Stores, stores, tuplesLength, rowsLength, tuplesUnsound, rowsUnsound}
+use Rattle.checks.specs.Stores.{lengthsNumber, storeNumber}
 use Rattle.insertion.specs.Changes.{made}
 use Rattle.insertion.specs.Inserts.{overfull}
 use Rattle.join.specs.Changes.{insertNumber, deleteNumber}
@@ -77,7 +78,7 @@ lanes =
     ∷ []))
 
 lanes-hold : Cases lanes
-unfolding lanes Cases numbersOf badLane laneCheck laneNumber changeNumber sessionAfter firstOf cutsOf cover planNumber legalPlan fitsTuples fitsRows fitsAll lengthsNumber
+unfolding lanes Cases numbersOf badLane laneCheck laneNumber changeNumber sessionAfter firstOf cutsOf cover planNumber legalPlan fitsTuples fitsRows tuplesLength rowsLength lengthsNumber
 lanes-hold = (refl, (refl, (refl, tt)))
 
 -- changes on an empty wall: an insert, a delete, an item number above 999,999, a span that ends before it starts
@@ -88,5 +89,5 @@ changes : List (Stores × List Line × List ℕ)
 changes = (blankOf 1, some, 0 ∷ (0 ∷ (11 ∷ (7 ∷ (8 ∷ []))))) ∷ []
 
 changes-hold : Cases changes
-unfolding changes Cases numbersOf badLane laneCheck laneNumber changeNumber sessionAfter firstOf cutsOf cover planNumber legalPlan home homeOf fitsTuples fitsRows fitsAll lengthsNumber counted recordsIn tuplesIn rowsIn soundPart soundTuplePart soundRowPart soundTuples soundRows sound storeNumber labelCheck itemCheck validCheck tupleNumber insertNumber deleteNumber overfull made madeWith storedTuples rowsAt
+unfolding changes Cases numbersOf badLane laneCheck laneNumber changeNumber sessionAfter firstOf cutsOf cover planNumber legalPlan home homeOf fitsTuples fitsRows tuplesLength rowsLength lengthsNumber counted recordsIn tuplesIn rowsIn soundPart soundTuplePart soundRowPart soundTuples soundRows tuplesUnsound rowsUnsound storeNumber labelCheck itemCheck validCheck tupleNumber insertNumber deleteNumber overfull made madeWith storedTuples rowsAt
 changes-hold = (refl, tt)

@@ -29,7 +29,8 @@ use Rattle.plan.proofs.Homes.{plan-legal-test}
 use Rattle.store.specs.Store.{tupleRoom, rowRoom, fitsTuples, fitsRows, storedTuples, storedRows}
 use Rattle.rows.specs.declared.Side.{Side}
 use Rattle.rows.specs.declared.Side.the-variants.{Outer, Inner}
-use Rattle.checks.specs.Stores.{Stores, fitsAll, sound, lengthsNumber, openNumber, storeNumber}
+use Rattle.checks.specs.Stores.{Stores, sound, tuplesLength, rowsLength, lengthsNumber, openNumber, storeNumber}
+use Rattle.checks.proofs.Checks.{stores-are}
 use Rattle.insertion.specs.Changes.{made}
 use Rattle.insertion.specs.Inserts.{full, overfull}
 use Rattle.deletion.specs.Deletes.{lacks}
@@ -79,7 +80,7 @@ module _ (s : Session) (S : Stores) (g : Good s) (done : s .complete ≡ true) (
       (omega (arith, length-take (usedRows s) (S .rows), g .most, y .rows))
 
   pub wall-open : openNumber (planOf s) wall ≡ 0
-  unfolding lengthsNumber fitsAll firstOf
+  unfolding lengthsNumber tuplesLength rowsLength firstOf
   wall-open = rw (plan-legal s g done, outer-fits, inner-fits, rows-fit)
 
 -- ---- the first check that applies, among numbers that pass a test
@@ -224,24 +225,24 @@ module _ (s : Session) (w : Word) (t : Tuple) (S : Stores) (g : Good s) (y : Eig
     (l : labelCheck (t .label) ≡ 0) where
   -- on any wall: 5 too
   pub change-met : among (5 ∷ changeNumbers) (changeNumber s w t S) ≡ true
-  unfolding storeNumber
   change-met =
       change-by (among (5 ∷ changeNumbers)) (λ n h. or-right (eqb n 5) (among changeNumbers n) h) s w t S l
       (λ c.
-      first-met (among (5 ∷ changeNumbers)) _ refl
+      ap (among (5 ∷ changeNumbers)) (stores-are (planOf s) (wallOf s S))
+      ∙ first-met (among (5 ∷ changeNumbers)) _ refl
       (and-both _ _ (ap (among (5 ∷ changeNumbers)) (wall-open s S g c y))
       (and-both _ _ (refuse-ok (among (5 ∷ changeNumbers)) (not (sound (planOf s) (wallOf s S))) 5 refl refl) refl)))
 
   -- on a sound wall
   pub change-sound : (s .complete ≡ true → sound (planOf s) (wallOf s S) ≡ true)
       → among changeNumbers (changeNumber s w t S) ≡ true
-  unfolding storeNumber firstOf
+  unfolding firstOf
   change-sound h =
       change-by (among changeNumbers) (λ n q. q) s w t S l
       (λ c. ap (among changeNumbers) (sound-number c))
     where
       sound-number : s .complete ≡ true → storeNumber (planOf s) (wallOf s S) ≡ 0
-      sound-number c = rw (wall-open s S g c y, h c)
+      sound-number c = stores-are (planOf s) (wallOf s S) ∙ rw (wall-open s S g c y, h c)
 
 -- ---- a line
 

@@ -13,7 +13,8 @@ use Rattle.lists.specs.Choice.{firstOf}
 use Rattle.interval.specs.declared.tuple.Tuple.{Tuple}
 use Rattle.plan.specs.Plan.{legalPlan}
 use Rattle.store.specs.Store.{fitsTuples, fitsRows}
-use Rattle.checks.specs.Stores.{Stores, fitsAll, lengthsNumber, openNumber, storeNumber}
+use Rattle.checks.specs.Stores.{Stores, fitsAll, openNumber, storeNumber}
+use Rattle.checks.proofs.Checks.{lengths-are}
 use Rattle.join.specs.Changes.{insertNumber, deleteNumber}
 use Rattle.lines.specs.declared.Word.{Word}
 use Rattle.lines.specs.declared.Word.the-variants.{DrawIn, DrawOut, SpotIn, SpotOut}
@@ -56,8 +57,8 @@ module _ (s : Session) (S : Stores) (g : Good s) (done : s .complete ≡ true) w
   which (inr (inr h)) = inr (inr (rows-short (S .rows) h))
 
   short-open : Short s S → openNumber (planOf s) (wallOf s S) ≡ 4
-  unfolding lengthsNumber fitsAll firstOf
-  short-open h = rw (plan-legal s g done, one-fails _ _ _ (which h))
+  unfolding fitsAll firstOf
+  short-open h = lengths-are (planOf s) _ _ _ ∙ rw (plan-legal s g done, one-fails _ _ _ (which h))
 
   short-call : (w : Word) (t : Tuple) → Short s S → callNumber w (planOf s) t (wallOf s S) ≡ 4
   unfolding insertNumber deleteNumber storeNumber firstOf

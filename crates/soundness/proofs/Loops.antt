@@ -1,11 +1,11 @@
 -- The loops and tests of check 5: a test of every record; soundness by its parts; that two comparisons say what
--- partition a chronon belongs to; the partitions, one after the other.
+-- partition a chronon belongs to; a record as it is read; the partitions, one after the other.
 -- Assumes nothing.
 use mathlib.Core.Bool.{Bool, true, false, _&&_}
 use mathlib.Core.List.{List, []}
 use mathlib.Core.Path.{_≡_, refl, sym, _∙_, ap, ap₂}
 use Prim.Native.Nat.{ℕ, _+_, _-_, _*_, _≤_, _<_}
-use native.Mathlib.Nat.{zero-mul}
+use native.Mathlib.Nat.{zero-mul, mul-le-mul, le-refl}
 use native.Mathlib.Omega.{arith}
 use lib.ListN.{length, getD, drop}
 use lib.Dec.{leb, eqb}
@@ -15,16 +15,19 @@ use Rattle.lists.specs.Words.{partAt, zeros, recordsOf, recordAt}
 use Rattle.lists.proofs.Parts.{start-next, start-within}
 use Rattle.lists.proofs.Members.{all-cong, all-end, all-next, all-stop}
 use Rattle.lists.proofs.Records.{length-records, record-at}
-use Rattle.interval.specs.Tuple.{legalTuple, legalRow, to, rowTo}
+use Rattle.interval.specs.Tuple.{tupleWidth, tupleOf, to, tupleNumber, legalTuple}
+use Rattle.interval.specs.Tuple.{rowWidth, rowOf, rowTo, rowNumber, legalRow}
 use Rattle.interval.specs.declared.tuple.Tuple.{Tuple}
 use Rattle.interval.specs.declared.tuple.Row.{Row}
 use Rattle.plan.specs.Plan.{cutsOf, home, startOf}
 use Rattle.plan.specs.declared.Partitioning.{Partitioning}
 use Rattle.plan.proofs.Homes.{LegalPlan, home-test, start-next as cut-after}
-use Rattle.part.specs.Part.{roomOf, counted, recordsIn, soundPart}
+use Rattle.part.specs.Part.{roomOf, counted, recordsIn, tupleAt, rowAt, soundPart}
 use Rattle.store.specs.Store.{tupleAtHome, rowAtHome}
 use Rattle.store.proofs.StoreLoops.{Turn, below-start, lent, lent-is}
-use Rattle.soundness.specs.Between.{tupleBetween, rowBetween}
+use Rattle.soundness.specs.Between.{legalBetween, recordBetween, recordAtHome}
+use Rattle.soundness.specs.declared.Records.{Records}
+use Rattle.soundness.specs.declared.Records.the-variants.{Tuples, Rows}
 
 -- ---- a test of every record: those from k on decide
 
@@ -70,17 +73,32 @@ sound-cong w capacity ok ok′ part h = rw (all-cong ok ok′ (recordsIn w part)
 
 module _ (p : Partitioning) (i first last : ℕ) (legal : LegalPlan p) (within : i < length (cutsOf p))
     (starts : first ≡ startOf (cutsOf p) i) (ends : last ≡ getD (cutsOf p) i 0) where
-  between-home : (m : ℕ) → (leb first m && leb m last) ≡ eqb (home p m) i
+  home-between : (m : ℕ) → (leb first m && leb m last) ≡ eqb (home p m) i
   unfolding home
-  between-home m = rw (starts, ends) (sym (home-test (cutsOf p) (legal .covered) i m within))
+  home-between m = rw (starts, ends) (sym (home-test (cutsOf p) (legal .covered) i m within))
 
-  pub tuple-between-home : (t : Tuple) → tupleBetween first last t ≡ tupleAtHome p i t
-  unfolding tupleBetween tupleAtHome
-  tuple-between-home t = ap (λ (b : Bool). legalTuple t && b) (between-home (to t))
+  pub between-home : (kind : Records) (ws : List ℕ) → recordBetween kind first last ws ≡ recordAtHome kind p i ws
+  unfolding recordBetween legalBetween tupleAtHome legalTuple rowAtHome legalRow
+  between-home Tuples ws = ap (λ (b : Bool). eqb (tupleNumber (tupleOf ws)) 0 && b) (home-between (to (tupleOf ws)))
+  between-home Rows ws = ap (λ (b : Bool). eqb (rowNumber (rowOf ws)) 0 && b) (home-between (rowTo (rowOf ws)))
 
-  pub row-between-home : (r : Row) → rowBetween first last r ≡ rowAtHome p i r
-  unfolding rowBetween rowAtHome
-  row-between-home r = ap (λ (b : Bool). legalRow r && b) (between-home (rowTo r))
+-- ---- a record's words as it is read
+
+module _ (first last k n : ℕ) (part : List ℕ) where
+  pub tuple-read : (t : Tuple) → t ≡ tupleAt part k → n ≡ tupleNumber t
+      → legalBetween n (to t) first last ≡ recordBetween Tuples first last (recordAt tupleWidth k (drop 1 part))
+  unfolding tupleAt recordBetween
+  tuple-read t e d = rw (d, e)
+
+  pub row-read : (r : Row) → r ≡ rowAt part k → n ≡ rowNumber r
+      → legalBetween n (rowTo r) first last ≡ recordBetween Rows first last (recordAt rowWidth k (drop 1 part))
+  unfolding rowAt recordBetween
+  row-read r e d = rw (d, e)
+
+-- ---- fewer records take no more room
+
+pub room-order : (w m n : ℕ) → m ≤ n → roomOf w m ≤ roomOf w n
+room-order w m n h = omega (arith, mul-le-mul (le-refl w) h)
 
 -- ---- going through the partitions: i of them are sound, the next starts at word `at` and at chronon `first`
 

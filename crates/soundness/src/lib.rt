@@ -1,19 +1,27 @@
-// Check 5: whether a store is sound. What a sound store is stands in crate store, specs/Store.antt.
+// Check 5: whether a store is sound, once for tuples and rows. What a sound store is stands in crate store, specs/Store.antt.
 // Each word is read once: two comparisons say that a record belongs to its partition, and eight words of a tail are
 // tested for 0 at a time.
+ghost use mathlib.Core.Bool.{true};
 ghost use mathlib.Core.Path.{_≡_};
 ghost use Prim.Native.Nat.{_+_, _≤_};
 ghost use lib.Dec.{eqb};
 ghost use lib.ListN.{length, drop};
 ghost use Rattle.lists.specs.Members.{all};
-ghost use Rattle.lists.specs.Words.{partAt, zeros, recordsOf};
-ghost use Rattle.interval.specs.Tuple.{tupleWidth, tupleOf, rowWidth, rowOf};
+ghost use Rattle.lists.specs.Words.{partAt, zeros, recordsOf, recordAt};
+ghost use Rattle.plan.specs.Plan.{planNumber};
 ghost use Rattle.part.specs.Part.{roomOf, soundPart};
-ghost use Rattle.store.specs.Store.{tuplesSound, rowsSound};
-ghost use Rattle.soundness.specs.Between.{tupleBetween, rowBetween};
-use interval::tuple::Row;
-use interval::tuple::Tuple;
+ghost use Rattle.store.specs.Store.{fitsTuples, fitsRows, soundTuples, soundRows};
+ghost use Rattle.soundness.specs.Between.{widthOf, legalBetween, recordBetween, PartsFit, soundParts};
+use interval::time::Chronon;
+use interval::tuple::ROW_WIDTH;
+use interval::tuple::TUPLE_WIDTH;
 use plan::Partitioning;
+
+// What the records of a store are: said where the plan is known, so that what a plan asks of a record can go with it.
+enum Records {
+    Tuples,
+    Rows,
+}
 
 // The bits that any of the eight words from place i has: 0 exactly if all eight are 0.
 fn any_of_eight(words: &[u64], i: usize) -> u64
@@ -57,40 +65,59 @@ fn zeros_from(words: &[u64], from: usize) -> bool
     zeros_one_by_one(words, i)
 }
 
-// Whether a tuple is legal and its last chronon is from `first` to `last`.
-fn tuple_between(t: Tuple, first: u64, last: u64) -> bool
-    ensures { λ r. ⌜ r ≡ tupleBetween first last t ⌝ }
+// The words of a record.
+fn width(kind: Records) -> usize
+    ensures { λ r. ⌜ r ≡ widthOf kind ⌝ }
 {
-    if interval::tuple::tuple_number(t) != 0 {
-        return false;
+    match kind {
+        Records::Tuples => TUPLE_WIDTH,
+        Records::Rows => ROW_WIDTH,
     }
-    if t.valid.last.0 < first {
-        return false;
-    }
-    t.valid.last.0 <= last
 }
 
-// Whether a row is legal and its last chronon is from `first` to `last`.
-fn row_between(row: Row, first: u64, last: u64) -> bool
-    ensures { λ r. ⌜ r ≡ rowBetween first last row ⌝ }
+// Whether a record is legal, by the number that its checks gave, and its last chronon m is from `first` to `last`.
+fn legal_between(number: u64, m: Chronon, first: Chronon, last: Chronon) -> bool
+    ensures { λ r. ⌜ r ≡ legalBetween number (m .0) (first .0) (last .0) ⌝ }
 {
-    if interval::tuple::row_number(row) != 0 {
+    if number != 0 {
         return false;
     }
-    if row.valid.last.0 < first {
+    if m.0 < first.0 {
         return false;
     }
-    row.valid.last.0 <= last
+    m.0 <= last.0
 }
 
-// Whether each of the first n tuples of a partition is legal and between.
-fn tuples_between(part: &[u64], n: usize, first: u64, last: u64) -> bool
-    requires { ⌜ roomOf tupleWidth n ≤ length (now part) ⌝ }
-    ensures { λ r. ⌜ r ≡ all (λ ws. tupleBetween first last (tupleOf ws)) (recordsOf tupleWidth n (drop 1 (now (part .entry)))) ⌝ }
+// Whether record k of a partition is legal and its last chronon is from `first` to `last`.
+fn record_between(kind: Records, part: &[u64], k: usize, first: Chronon, last: Chronon) -> bool
+    requires { ⌜ roomOf (widthOf kind) (k + 1) ≤ length (now part) ⌝ }
+    ensures { λ r. ⌜ r ≡ recordBetween kind (first .0) (last .0) (recordAt (widthOf kind) k (drop 1 (now (part .entry)))) ⌝ }
+{
+    match kind {
+        Records::Tuples => {
+            let t = part::tuple_at(part, k);
+            legal_between(interval::tuple::tuple_number(t), t.valid.last, first, last)
+        }
+        Records::Rows => {
+            let row = part::row_at(part, k);
+            legal_between(
+                interval::tuple::row_number(row),
+                row.valid.last,
+                first,
+                last,
+            )
+        }
+    }
+}
+
+// Whether each of the first n records of a partition is legal and between.
+fn records_between(kind: Records, part: &[u64], n: usize, first: Chronon, last: Chronon) -> bool
+    requires { ⌜ roomOf (widthOf kind) n ≤ length (now part) ⌝ }
+    ensures { λ r. ⌜ r ≡ all (recordBetween kind (first .0) (last .0)) (recordsOf (widthOf kind) n (drop 1 (now (part .entry)))) ⌝ }
 {
     let mut k: usize = 0;
     while k < n {
-        if !tuple_between(part::tuple_at(part, k), first, last) {
+        if !record_between(kind, part, k, first, last) {
             return false;
         }
         k += 1;
@@ -98,97 +125,62 @@ fn tuples_between(part: &[u64], n: usize, first: u64, last: u64) -> bool
     true
 }
 
-// Whether each of the first n rows of a partition is legal and between.
-fn rows_between(part: &[u64], n: usize, first: u64, last: u64) -> bool
-    requires { ⌜ roomOf rowWidth n ≤ length (now part) ⌝ }
-    ensures { λ r. ⌜ r ≡ all (λ ws. rowBetween first last (rowOf ws)) (recordsOf rowWidth n (drop 1 (now (part .entry)))) ⌝ }
-{
-    let mut k: usize = 0;
-    while k < n {
-        if !row_between(part::row_at(part, k), first, last) {
-            return false;
-        }
-        k += 1;
-    }
-    true
-}
-
-// Whether a partition of tuples is sound, given its capacity and its first and last chronon.
-fn sound_tuple_part(part: &[u64], capacity: usize, first: u64, last: u64) -> bool
-    requires { ⌜ roomOf tupleWidth capacity ≤ length (now part) ⌝ }
-    ensures { λ r. ⌜ r ≡ soundPart tupleWidth capacity (λ ws. tupleBetween first last (tupleOf ws)) (now (part .entry)) ⌝ }
+// Whether a partition is sound, given its capacity and its first and last chronon.
+fn sound_part(kind: Records, part: &[u64], capacity: usize, first: Chronon, last: Chronon) -> bool
+    requires { ⌜ roomOf (widthOf kind) capacity ≤ length (now part) ⌝ }
+    ensures { λ r. ⌜ r ≡ soundPart (widthOf kind) capacity (recordBetween kind (first .0) (last .0)) (now (part .entry)) ⌝ }
 {
     let n = part[0] as usize;
     if capacity < n {
         return false;
     }
-    if !tuples_between(part, n, first, last) {
+    if !records_between(kind, part, n, first, last) {
         return false;
     }
-    zeros_from(part, 1 + 4 * n)
+    zeros_from(part, 1 + width(kind) * n)
 }
 
-// Whether a partition of rows is sound, given its capacity and its first and last chronon.
-fn sound_row_part(part: &[u64], capacity: usize, first: u64, last: u64) -> bool
-    requires { ⌜ roomOf rowWidth capacity ≤ length (now part) ⌝ }
-    ensures { λ r. ⌜ r ≡ soundPart rowWidth capacity (λ ws. rowBetween first last (rowOf ws)) (now (part .entry)) ⌝ }
+// Whether each partition of a store is sound, given their capacity and the words of each.
+fn sound_parts(kind: Records, p: Partitioning, capacity: usize, room: usize, store: &[u64]) -> bool
+    requires { ⌜ planNumber p ≡ 0 ⌝ }
+    requires { ⌜ PartsFit kind p capacity room (now store) ⌝ }
+    ensures { λ r. ⌜ r ≡ soundParts kind p capacity room (now (store .entry)) ⌝ }
 {
-    let n = part[0] as usize;
-    if capacity < n {
-        return false;
-    }
-    if !rows_between(part, n, first, last) {
-        return false;
-    }
-    zeros_from(part, 1 + 5 * n)
-}
-
-// Check 5 of a tuple store: whether it has the plan's length and is sound.
-pub fn sound_tuples(p: Partitioning, store: &[u64]) -> bool
-    ensures { λ r. ⌜ r ≡ tuplesSound p (now (store .entry)) ⌝ }
-{
-    if !store::fits_tuples(p, store.len()) {
-        return false;
-    }
     let lasts = p.lasts;
-    let room = store::tuple_room(p);
-    let mut first: u64 = 0;
+    let mut first = Chronon(0);
     let mut at: usize = 0;
     let mut i: u64 = 0;
     while i < p.count {
         let last = lasts[i as usize];
         let end = at + room;
-        if !sound_tuple_part(&store[at..end], p.tuples as usize, first, last.0) {
+        if !sound_part(kind, &store[at..end], capacity, first, last) {
             return false;
         }
-        first = last.0 + 1;
+        first = Chronon(last.0 + 1);
         at = end;
         i += 1;
     }
     true
+}
+
+// Check 5 of a tuple store of a legal plan's length: whether it is sound.
+pub fn sound_tuples(p: Partitioning, store: &[u64]) -> bool
+    requires { ⌜ fitsTuples p (length (now store)) ≡ true ⌝ }
+    ensures { λ r. ⌜ r ≡ soundTuples p (now (store .entry)) ⌝ }
+{
+    sound_parts(
+        Records::Tuples,
+        p,
+        p.tuples as usize,
+        store::tuple_room(p),
+        store,
+    )
 }
 
 // Check 5 of the rows store.
 pub fn sound_rows(p: Partitioning, store: &[u64]) -> bool
-    ensures { λ r. ⌜ r ≡ rowsSound p (now (store .entry)) ⌝ }
+    requires { ⌜ fitsRows p (length (now store)) ≡ true ⌝ }
+    ensures { λ r. ⌜ r ≡ soundRows p (now (store .entry)) ⌝ }
 {
-    if !store::fits_rows(p, store.len()) {
-        return false;
-    }
-    let lasts = p.lasts;
-    let room = store::row_room(p);
-    let mut first: u64 = 0;
-    let mut at: usize = 0;
-    let mut i: u64 = 0;
-    while i < p.count {
-        let last = lasts[i as usize];
-        let end = at + room;
-        if !sound_row_part(&store[at..end], p.rows as usize, first, last.0) {
-            return false;
-        }
-        first = last.0 + 1;
-        at = end;
-        i += 1;
-    }
-    true
+    sound_parts(Records::Rows, p, p.rows as usize, store::row_room(p), store)
 }

@@ -3,7 +3,7 @@
 -- In order: lengths; tuple stores that are sound and that are not; rows stores; all that a store holds; partitions read;
 -- partitions changed, word for word.
 -- Assumes nothing.
-use mathlib.Core.Bool.{Bool, true, false}
+use mathlib.Core.Bool.{Bool, true, false, _&&_}
 use mathlib.Core.List.{List, [], _∷_, _++_, map}
 use mathlib.Core.Path.{_≡_, refl}
 use Prim.Native.Nat.{ℕ, _-_}
@@ -19,7 +19,7 @@ use Rattle.plan.specs.declared.Partitioning.{Partitioning}
 use Rattle.part.specs.Part.{counted, recordsIn, tuplesIn, rowsIn, soundPart, appended, removed}
 use Rattle.store.specs.Store.{fitsTuples, fitsRows, onPartition, tuplePart, rowPart}
 use Rattle.store.specs.Store.{tupleAtHome, rowAtHome, soundTuplePart, soundRowPart, soundTuples, soundRows}
-use Rattle.store.specs.Store.{tuplesSound, rowsSound, storedTuples, storedRows, tuplesAt, rowsAt}
+use Rattle.store.specs.Store.{storedTuples, storedRows, tuplesAt, rowsAt}
 
 -- ---- the plan, in 64 places; those beyond its cuts hold 7; and stores of three partitions, written out
 
@@ -111,11 +111,11 @@ row-lengths-hold : Lengths fitsRows row-lengths
 unfolding Lengths row-lengths firstOf cutsOf cover planNumber legalPlan fitsRows
 row-lengths-hold = (refl, (refl, (refl, (refl, (refl, (refl, (refl, (refl, (refl, tt)))))))))
 
--- ---- tuple stores that are sound, and that are not
+-- ---- tuple stores of the plan's length that are sound, and stores that are not
 
 Tuples : Bool → List (Partitioning × List ℕ) → Type 0
 Tuples answer [] = Unit {0}
-Tuples answer (c ∷ cs) = (tuplesSound (c .0) (c .1) ≡ answer) × Tuples answer cs
+Tuples answer (c ∷ cs) = ((fitsTuples (c .0) (length (c .1)) && soundTuples (c .0) (c .1)) ≡ answer) × Tuples answer cs
 
 -- no tuple; the first and the last chronon of each partition, a tuple that starts partitions before, two that are equal,
 -- the largest label and item number, all places taken
@@ -197,7 +197,7 @@ tuples-hold : Tuples true tuples-right
     × Tuples false tails
     × Tuples false illegals
     × Tuples false misfits
-unfolding Tuples tuples-right tuples-away counts tails illegals misfits firstOf labelCheck itemCheck validCheck tupleNumber legalTuple cutsOf cover planNumber legalPlan homeOf home counted recordsIn soundPart fitsTuples tupleAtHome soundTuplePart soundTuples tuplesSound
+unfolding Tuples tuples-right tuples-away counts tails illegals misfits firstOf labelCheck itemCheck validCheck tupleNumber legalTuple cutsOf cover planNumber legalPlan homeOf home counted recordsIn soundPart fitsTuples tupleAtHome soundTuplePart soundTuples
 tuples-hold = (
   (refl, (refl, (refl, (refl, (refl, (refl, (refl, (refl, (refl, (refl, tt)))))))))),
   (refl, (refl, (refl, (refl, (refl, (refl, tt)))))),
@@ -207,11 +207,11 @@ tuples-hold = (
   (refl, (refl, (refl, (refl, (refl, (refl, (refl, tt))))))),
 )
 
--- ---- rows stores that are sound, and that are not
+-- ---- rows stores of the plan's length that are sound, and stores that are not
 
 Rows : Bool → List (Partitioning × List ℕ) → Type 0
 Rows answer [] = Unit {0}
-Rows answer (c ∷ cs) = (rowsSound (c .0) (c .1) ≡ answer) × Rows answer cs
+Rows answer (c ∷ cs) = ((fitsRows (c .0) (length (c .1)) && soundRows (c .0) (c .1)) ≡ answer) × Rows answer cs
 
 -- no row; the first and the last chronon of each partition, a row that starts partitions before, all places taken
 rows-right : List (Partitioning × List ℕ)
@@ -252,7 +252,7 @@ rows-wrong =
 
 -- each of them computes
 rows-hold : Rows true rows-right × Rows false rows-wrong
-unfolding Rows rows-right rows-wrong firstOf labelCheck itemCheck validCheck rowNumber legalRow cutsOf cover planNumber legalPlan homeOf home counted recordsIn soundPart fitsRows rowAtHome soundRowPart soundRows rowsSound
+unfolding Rows rows-right rows-wrong firstOf labelCheck itemCheck validCheck rowNumber legalRow cutsOf cover planNumber legalPlan homeOf home counted recordsIn soundPart fitsRows rowAtHome soundRowPart soundRows
 rows-hold = (
   (refl, (refl, (refl, (refl, (refl, (refl, (refl, (refl, tt)))))))),
   (refl, (refl, (refl, (refl, (refl, (refl, (refl, (refl, (refl, (refl, (refl, (refl, (refl, (refl, (refl, (refl, (refl, (refl, tt)))))))))))))))))),

@@ -11,7 +11,7 @@ use lib.ListN.{length, take, drop}
 use lib.Dec.{eqb, lit<}
 use mir.Syntax.{w64}
 use mir.Val.{Fits}
-use borrow.Author.Tests.{ne-eqb, eqb-true}
+use borrow.Author.Tests.{eqb-true}
 use borrow.Rule.Slice.PartMut.{putMid}
 use Rattle.lists.specs.Members.{all, below, upFrom}
 use Rattle.lists.specs.Words.{partAt, onPart}
@@ -46,11 +46,6 @@ module _ (f : ℕ → Bool) (n : ℕ) where
   below-end i h inv = sym (inv ∙ ap (all f) (up-end i n h))
 
 -- ---- lengths
-
--- a plan that is not legal gives no length
-pub no-fit : (p : Partitioning) (n : ℕ) (rest : Bool) → n ≡ planNumber p → (n ≡ 0 → ⊥) → false ≡ (legalPlan p && rest)
-unfolding legalPlan
-no-fit p n rest e h = rw (ne-eqb (planNumber p) 0 (λ z. h (e ∙ z)))
 
 -- 64 partitions of at most 20,481 words fit a machine's word
 pub length-fits : (n room : ℕ) → n ≤ 64 → room ≤ 20481 → Fits w64 (n * room)

@@ -3,7 +3,6 @@
 use mathlib.Core.Bool.{Bool, _&&_}
 use mathlib.Core.List.{List}
 use Prim.Native.Nat.{ℕ, _+_, _*_, _<_}
-use lib.ListN.{length}
 use lib.Dec.{eqb}
 use Rattle.lists.specs.Members.{all, keep, gather, below}
 use Rattle.lists.specs.Same.{Same}
@@ -64,13 +63,6 @@ soundTuples p ws = all (λ i. soundTuplePart p i (tuplePart p ws i)) (below (p .
 
 unfoldable pub soundRows : Partitioning → List ℕ → Bool
 soundRows p ws = all (λ i. soundRowPart p i (rowPart p ws i)) (below (p .count))
-
--- a store of the plan's length that is sound (checks 4 and 5, for any plan and any words)
-unfoldable pub tuplesSound : Partitioning → List ℕ → Bool
-tuplesSound p ws = fitsTuples p (length ws) && soundTuples p ws
-
-unfoldable pub rowsSound : Partitioning → List ℕ → Bool
-rowsSound p ws = fitsRows p (length ws) && soundRows p ws
 
 -- all the tuples, all the rows of a store
 unfoldable pub storedTuples : Partitioning → List ℕ → List Tuple

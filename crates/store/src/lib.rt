@@ -28,23 +28,19 @@ pub fn row_room(p: Partitioning) -> usize
     1 + 5 * (p.rows as usize)
 }
 
-// Whether a tuple store's length is what the plan gives.
+// Whether a tuple store's length is what a legal plan gives.
 pub fn fits_tuples(p: Partitioning, len: usize) -> bool
+    requires { ⌜ planNumber p ≡ 0 ⌝ }
     ensures { λ r. ⌜ r ≡ fitsTuples p len ⌝ }
 {
-    if plan::plan_number(p) != 0 {
-        return false;
-    }
     len == p.count as usize * tuple_room(p)
 }
 
-// Whether the rows store's length is what the plan gives.
+// Whether the rows store's length is what a legal plan gives.
 pub fn fits_rows(p: Partitioning, len: usize) -> bool
+    requires { ⌜ planNumber p ≡ 0 ⌝ }
     ensures { λ r. ⌜ r ≡ fitsRows p len ⌝ }
 {
-    if plan::plan_number(p) != 0 {
-        return false;
-    }
     len == p.count as usize * row_room(p)
 }
 

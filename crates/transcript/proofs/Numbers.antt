@@ -12,6 +12,7 @@ use Rattle.lists.proofs.Choice.{and-both}
 use Rattle.interval.specs.Label.{labelCheck}
 use Rattle.interval.specs.declared.tuple.Tuple.{Tuple}
 use Rattle.checks.specs.Stores.{Stores, sound, storeNumber}
+use Rattle.checks.proofs.Checks.{stores-are}
 use Rattle.history.specs.Machine.{Told}
 use Rattle.history.proofs.Kept.{kept-current-now}
 use Rattle.lines.specs.Line.{lineOf}
@@ -39,8 +40,8 @@ module _ (s : Session) (w : Word) (t : Tuple) (S : Stores) (ts : List Told) (g :
 
   -- checks 1 to 5 pass
   wall-passes : s .complete ≡ true → storeNumber (planOf s) (wallOf s S) ≡ 0
-  unfolding storeNumber firstOf
-  wall-passes c = rw (wall-open s S g c y, wall-sound c)
+  unfolding firstOf
+  wall-passes c = stores-are (planOf s) (wallOf s S) ∙ rw (wall-open s S g c y, wall-sound c)
 
   -- never 12
   change-not12 : not12 (changeNumber s w t S) ≡ true

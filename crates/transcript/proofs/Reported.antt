@@ -14,6 +14,7 @@ use Rattle.part.proofs.Parts.{sound-count}
 use Rattle.store.specs.Store.{rowPart, rowAtHome, fitsTuples, fitsRows, soundRowPart, soundRows}
 use Rattle.store.proofs.Stores.{sound-rows-at}
 use Rattle.checks.specs.Stores.{Stores, fitsAll, fits}
+use Rattle.checks.proofs.Checks.{fit-rows, sound-rows}
 use Rattle.history.specs.Machine.{Machine}
 use Rattle.history.proofs.Kept.{Kept, kept-current-now}
 use Rattle.report.specs.Text.{rowCount}
@@ -50,5 +51,7 @@ pub report-accepted : (m : Machine) (s : Session) (S : Stores) → Good s → Ke
 report-accepted m s S g k room h =
     sym
     (passes (planOf s) (wallOf s S .rows) room (k .legal)
-    (rows-fit (planOf s) (wallOf s S) (kept-current-now m (planOf s) (wallOf s S) k .long)) (k .rows .sound)
+    (fit-rows (planOf s) (length (wallOf s S .rows))
+    (rows-fit (planOf s) (wallOf s S) (kept-current-now m (planOf s) (wallOf s S) k .long)))
+    (sound-rows (planOf s) (wallOf s S .rows) (k .rows .sound))
     (omega (arith, rows-within (planOf s) (wallOf s S .rows) (k .rows .sound), g .most)))

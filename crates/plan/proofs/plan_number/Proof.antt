@@ -4,7 +4,7 @@ use mathlib.Core.Bool.{true, false}
 use mathlib.Core.Path.{_≡_, sym, _∙_}
 use borrow.Author.Tests.{not-true, not-false}
 use Rattle.lists.proofs.Choice.{or-left, or-right}
-use Rattle.plan.specs.Plan.{outside, cutsOf, cover, planNumber}
+use Rattle.plan.specs.Plan.{outside, mostPartitions, mostTuples, mostRows, cutsOf, cover, planNumber}
 use Rattle.plan.specs.declared.Partitioning.{Partitioning}
 use Rattle.plan.proofs.Homes.{is-within, is-below, is-above, plan-legal}
 use Rattle.plan.proofs.Homes.{count-answers, cuts-answer, sizes-answer}
@@ -15,16 +15,16 @@ use Rattle.plan.proofs.plan_number.Tie as tie
 returns : tie.Need-returns
 returns c =
     let p = c .before .before .args .p in
-    count-answers p (is-below 1 64 (p .count) (c .if1 .taken))
+    count-answers p (is-below 1 mostPartitions (p .count) (c .if1 .taken))
 
 returns-2 : tie.Need-returns-2
 returns-2 c =
     let p = c .before .before .before .before .args .p in
-    count-answers p (is-above 1 64 (p .count) (c .if2 .taken))
+    count-answers p (is-above 1 mostPartitions (p .count) (c .if2 .taken))
 
 -- check 1 does not apply
-counted : (c : tie.Else2) → outside 1 64 (c .before .before .before .before .args .p .count) ≡ false
-counted c = is-within 1 64 _ (c .before .before .if1 .left) (c .if2 .left)
+counted : (c : tie.Else2) → outside 1 mostPartitions (c .before .before .before .before .args .p .count) ≡ false
+counted c = is-within 1 mostPartitions _ (c .before .before .if1 .left) (c .if2 .left)
 
 covers-requires : tie.Need-covers-requires
 covers-requires c κs = search needs
@@ -45,28 +45,28 @@ unfolding cutsOf
 covered c = sym (c .before .covers .ensures) ∙ not-false (c .before .covers .result) (c .if3 .left)
 
 -- check 3 applies, by the tuples and by the rows
-tuples-answer : (c : tie.Else3) → outside 1 512 (planOf c .tuples) ≡ true → 3 ≡ planNumber (planOf c)
+tuples-answer : (c : tie.Else3) → outside 1 mostTuples (planOf c .tuples) ≡ true → 3 ≡ planNumber (planOf c)
 tuples-answer c e =
     sizes-answer (planOf c) (counted (c .before .before .before)) (covered c)
-    (or-left _ (outside 1 4096 (planOf c .rows)) e)
+    (or-left _ (outside 1 mostRows (planOf c .rows)) e)
 
-rows-answer : (c : tie.Else3) → outside 1 4096 (planOf c .rows) ≡ true → 3 ≡ planNumber (planOf c)
+rows-answer : (c : tie.Else3) → outside 1 mostRows (planOf c .rows) ≡ true → 3 ≡ planNumber (planOf c)
 rows-answer c e =
     sizes-answer (planOf c) (counted (c .before .before .before)) (covered c)
-    (or-right (outside 1 512 (planOf c .tuples)) _ e)
+    (or-right (outside 1 mostTuples (planOf c .tuples)) _ e)
 
 returns-4 : tie.Need-returns-4
-returns-4 c = tuples-answer (c .before .before) (is-below 1 512 _ (c .if4 .taken))
+returns-4 c = tuples-answer (c .before .before) (is-below 1 mostTuples _ (c .if4 .taken))
 
 returns-5 : tie.Need-returns-5
-returns-5 c = tuples-answer (c .before .before .before .before) (is-above 1 512 _ (c .if5 .taken))
+returns-5 c = tuples-answer (c .before .before .before .before) (is-above 1 mostTuples _ (c .if5 .taken))
 
 returns-6 : tie.Need-returns-6
-returns-6 c = rows-answer (c .before .before .before .before .before .before) (is-below 1 4096 _ (c .if6 .taken))
+returns-6 c = rows-answer (c .before .before .before .before .before .before) (is-below 1 mostRows _ (c .if6 .taken))
 
 returns-7 : tie.Need-returns-7
 returns-7 c =
-    rows-answer (c .before .before .before .before .before .before .before .before) (is-above 1 4096 _ (c .if7 .taken))
+    rows-answer (c .before .before .before .before .before .before .before .before) (is-above 1 mostRows _ (c .if7 .taken))
 
 returns-8 : tie.Need-returns-8
 returns-8 c =

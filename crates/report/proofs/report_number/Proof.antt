@@ -1,16 +1,15 @@
 -- `report::report_number` meets its contract: check after check.
 -- Assumes nothing.
-use mathlib.Core.Bool.{true}
 use mathlib.Core.Path.{_≡_, sym, _∙_}
 use native.Mathlib.Omega.{arith}
-use borrow.Author.Tests.{not-true, not-false}
 use lib.ListN.{length}
 use Rattle.plan.specs.Plan.{planNumber}
-use Rattle.store.specs.Store.{fitsRows, soundRows}
+use Rattle.checks.specs.Stores.{rowsLength, rowsUnsound}
+use Rattle.checks.proofs.Checks.{rows-fit}
 use Rattle.report.specs.Steps.{SoundStore}
 use Rattle.report.proofs.Bounds.{rows-most}
 use Rattle.report.proofs.Reports.{refuses-plan, refuses-length, refuses-unsound, refuses-buffer, passes}
-use Rattle.report.proofs.Reports.{sound-answer, sound-store}
+use Rattle.report.proofs.Reports.{sound-store}
 use borrow.Author.Needs.{needs}
 use Rattle.report.proofs.report_number.Statement.{statement}
 use Rattle.report.proofs.report_number.Tie as tie
@@ -19,28 +18,20 @@ use Rattle.report.proofs.report_number.Tie as tie
 legal : (c : tie.Else1) → planNumber (c .before .before .before .args .p) ≡ 0
 legal c = sym (c .before .plan-number .ensures) ∙ c .if1 .left
 
-fits : (c : tie.Else2)
-    → (let a = c .before .before .before .before .before .args in fitsRows (a .p) (length (a .rows .now)) ≡ true)
-fits c = sym (c .before .fits-rows .ensures) ∙ not-false (c .before .fits-rows .result) (c .if2 .left)
-
-answer : (c : tie.After-sound-rows)
-    → (let a = c .before .before .before .before .before .before .args in
-    c .sound-rows .result ≡ soundRows (a .p) (a .rows .now))
-answer c =
-    let a = c .before .before .before .before .before .before .args in
-    sound-answer (a .p) (a .rows .now) (a .room) (c .sound-rows .result) (fits (c .before)) (c .sound-rows .ensures)
+long : (c : tie.Else2)
+    → (let a = c .before .before .before .before .before .args in rowsLength (a .p) (length (a .rows .now)) ≡ 0)
+long c = sym (c .before .rows-length .ensures) ∙ c .if2 .left
 
 sound : (c : tie.Else3)
-    → (let a = c .before .before .before .before .before .before .before .args in
-    soundRows (a .p) (a .rows .now) ≡ true)
-sound c = sym (answer (c .before)) ∙ not-false (c .before .sound-rows .result) (c .if3 .left)
+    → (let a = c .before .before .before .before .before .before .before .args in rowsUnsound (a .p) (a .rows .now) ≡ 0)
+sound c = sym (c .before .rows-unsound .ensures) ∙ c .if3 .left
 
 store : (c : tie.Else3)
     → (let a = c .before .before .before .before .before .before .before .args in SoundStore (a .p) (a .rows .now))
 store c =
     let a = c .before .before .before .before .before .before .before .args in
     sound-store (a .p) (a .rows .now) (a .room) (legal (c .before .before .before .before))
-    (fits (c .before .before)) (sound c)
+    (long (c .before .before)) (sound c)
 
 plan-number-requires : tie.Need-plan-number-requires
 plan-number-requires c κs = search needs
@@ -51,24 +42,25 @@ returns c =
     refuses-plan (a .p) (a .rows .now) (a .room) (c .before .plan-number .result) (c .before .plan-number .ensures)
     (c .if1 .taken)
 
-fits-rows-requires : tie.Need-fits-rows-requires
-fits-rows-requires c κs = search needs
+rows-length-requires : tie.Need-rows-length-requires
+rows-length-requires c κs = legal c
 
 returns-2 : tie.Need-returns-2
 returns-2 c =
     let a = c .before .before .before .before .before .args in
     refuses-length (a .p) (a .rows .now) (a .room) (legal (c .before .before))
-    (sym (c .before .fits-rows .ensures) ∙ not-true (c .before .fits-rows .result) (c .if2 .taken))
+    (c .before .rows-length .result) (c .before .rows-length .ensures) (c .if2 .taken)
 
-sound-rows-requires : tie.Need-sound-rows-requires
-sound-rows-requires c κs = search needs
+rows-unsound-requires : tie.Need-rows-unsound-requires
+rows-unsound-requires c κs =
+    let a = c .before .before .before .before .before .args in
+    rows-fit (a .p) (length (a .rows .now)) (long c)
 
 returns-3 : tie.Need-returns-3
 returns-3 c =
     let a = c .before .before .before .before .before .before .before .args in
     refuses-unsound (a .p) (a .rows .now) (a .room) (legal (c .before .before .before .before))
-    (fits (c .before .before))
-    (sym (answer (c .before)) ∙ not-true (c .before .sound-rows .result) (c .if3 .taken))
+    (long (c .before .before)) (c .before .rows-unsound .result) (c .before .rows-unsound .ensures) (c .if3 .taken)
 
 count-rows-requires : tie.Need-count-rows-requires
 count-rows-requires c κs = store c
@@ -88,14 +80,14 @@ returns-4 c =
     let else = c .before .before in
     let a = else .before .before .before .before .before .before .before .args in
     refuses-buffer (a .p) (a .rows .now) (a .room) (legal (else .before .before .before .before))
-    (fits (else .before .before))
+    (long (else .before .before))
     (sound else) (rw (c .before .count-rows .ensures) at (c .if4 .taken))
 
 returns-5 : tie.Need-returns-5
 returns-5 c =
     let else = c .before .before in
     let a = else .before .before .before .before .before .before .before .args in
-    passes (a .p) (a .rows .now) (a .room) (legal (else .before .before .before .before)) (fits (else .before .before))
+    passes (a .p) (a .rows .now) (a .room) (legal (else .before .before .before .before)) (long (else .before .before))
     (sound else) (rw (c .before .count-rows .ensures) at (c .if4 .left))
 
 pub report-number-spec : {M : Type 1} → statement M
@@ -104,9 +96,9 @@ report-number-spec =
     (tie.spec
     plan-number-requires
     returns
-    fits-rows-requires
+    rows-length-requires
     returns-2
-    sound-rows-requires
+    rows-unsound-requires
     returns-3
     count-rows-requires
     mul-if4
