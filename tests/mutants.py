@@ -245,7 +245,7 @@ EDITS = [
         'let examined = rows::count::examined_from(other, site.tuples.words, site.low, site.count);',
         'let examined = rows::count::examined_from(other, site.tuples.words, plan::PartitionIndex(0), site.count);',
     ),
-    ('deletion/lib.rt', '        changed,', '        changed: 0,'),
+    ('deletion/lib.rt', 'checks::accepted(changed, examined)', 'checks::accepted(0, examined)'),
     # the calls: their numbers, and which check comes first
     ('insertion/lib.rt', 'if site.tuples.capacity <= held {', 'if site.tuples.capacity < held + 2 {'),
     ('insertion/lib.rt', '        return 9;', '        return 10;'),
