@@ -245,7 +245,7 @@ EDITS = [
         'let examined = rows::count::examined_from(other, site.tuples.words, site.low, site.count);',
         'let examined = rows::count::examined_from(other, site.tuples.words, plan::PartitionIndex(0), site.count);',
     ),
-    ('deletion/lib.rt', '        changed,', '        changed: 0,'),
+    ('deletion/lib.rt', 'checks::accepted(changed, examined)', 'checks::accepted(0, examined)'),
     # the calls: their numbers, and which check comes first
     ('insertion/lib.rt', 'if site.tuples.capacity <= held {', 'if site.tuples.capacity < held + 2 {'),
     ('insertion/lib.rt', '        return 9;', '        return 10;'),
@@ -265,15 +265,15 @@ EDITS = [
         '    full_check(p, t, site, own)',
     ),
     (
-        'join/lib.rt',
-        'let number = checks::store_number(p, outer, inner, rows);',
+        'checks/lib.rt',
+        'let unsound = store_number(p, outer, inner, rows);',
         'let early = interval::tuple::tuple_number(t);\n    if early != 0 {\n        return early;\n    }\n'
-        '    let number = checks::store_number(p, outer, inner, rows);',
+        '    let unsound = store_number(p, outer, inner, rows);',
     ),
     (
-        'join/lib.rt',
-        'let number = checks::store_number(p, outer, inner, rows);',
-        'let number = checks::lengths_number(p, outer.len(), inner.len(), rows.len());',
+        'checks/lib.rt',
+        'let unsound = store_number(p, outer, inner, rows);',
+        'let unsound = lengths_number(p, outer.len(), inner.len(), rows.len());',
     ),
     ('checks/lib.rt', 'if second != 0 {', 'if false {'),
     ('checks/lib.rt', 'if inner_unsound != 0 {', 'if false {'),
