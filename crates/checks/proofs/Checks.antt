@@ -1,5 +1,5 @@
--- Going down the checks of plan and stores: one check of three tests, three checks of one number, and what a passed list
--- of checks says.
+-- Going down the checks of plan and stores: one check of three tests, three checks of one number, checks 4 and 5 of one
+-- store, and what a passed list of checks says.
 -- Assumes nothing.
 use mathlib.Core.Bool.{Bool, true, false, not, _&&_}
 use mathlib.Core.List.{List, [], _∷_}

@@ -1,5 +1,5 @@
-// The checks of plan, stores and tuple, 1 to 8, each of one store by itself and in the table's order over the three stores, and
-// what a call answers. The definitions are in specs/Stores.
+// The checks of plan, stores and tuple, 1 to 8: those of one store by themselves, and all in the table's order over the
+// three stores; and what a call answers. The definitions are in specs/Stores.
 ghost use mathlib.Core.Bool.{true};
 ghost use mathlib.Core.Path.{_≡_};
 ghost use lib.ListN.{length};

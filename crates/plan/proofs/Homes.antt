@@ -262,8 +262,10 @@ sizes-are : (p : Partitioning) → refuseIf (outside 1 mostTuples (p .tuples) ||
 sizes-are p e =
     let t : Bool = outside 1 mostTuples (p .tuples) in
     let r : Bool = outside 1 mostRows (p .rows) in
-    let h = refuse-none (t || r) 2 e in
-    (within-is 1 mostTuples (p .tuples) (or-neither-left t r h), within-is 1 mostRows (p .rows) (or-neither-right t r h))
+    let h = refuse-none (t || r) 2 e in (
+      within-is 1 mostTuples (p .tuples) (or-neither-left t r h),
+      within-is 1 mostRows (p .rows) (or-neither-right t r h),
+    )
 
 -- a plan to which no check applies
 pub legal-plan : (p : Partitioning) → planNumber p ≡ 0 → LegalPlan p

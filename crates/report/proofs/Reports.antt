@@ -32,7 +32,8 @@ module _ (p : Partitioning) (rows : List ℕ) (room : ℕ) where
 
   module _ (l : planNumber p ≡ 0) where
     plan-next : (r : ℕ) → r ≡ firstOf (rowsLength p (length rows)
-        ∷ (rowsUnsound p rows ∷ (refuseIf (ltb room (textRoom (rowCount p rows))) 4 ∷ []))) → r ≡ reportNumber p rows room
+        ∷ (rowsUnsound p rows ∷ (refuseIf (ltb room (textRoom (rowCount p rows))) 4 ∷ [])))
+        → r ≡ reportNumber p rows room
     unfolding reportNumber
     plan-next r e = answer-next {n = planNumber p} _ refl l e
 
@@ -70,7 +71,8 @@ module _ (p : Partitioning) (rows : List ℕ) (room : ℕ) where
         passes h =
             sound-next 0
             (answer-last
-            (sym (refuse-passed (ltb room (textRoom (rowCount p rows))) 4 (le-ltb room (textRoom (rowCount p rows)) h))))
+            (sym
+            (refuse-passed (ltb room (textRoom (rowCount p rows))) 4 (le-ltb room (textRoom (rowCount p rows)) h))))
 
 -- ---- what passed checks leave known
 

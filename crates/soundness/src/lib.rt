@@ -1,4 +1,5 @@
-// Check 5: whether a store is sound, once for tuples and rows. What a sound store is stands in crate store, specs/Store.antt.
+// Check 5: whether a store is sound, once for tuples and rows. What a sound store is stands in crate store,
+// specs/Store.antt.
 // Each word is read once: two comparisons say that a record belongs to its partition, and eight words of a tail are
 // tested for 0 at a time.
 ghost use mathlib.Core.Bool.{true};

@@ -66,7 +66,8 @@ returns-6 c = rows-answer (c .before .before .before .before .before .before) (i
 
 returns-7 : tie.Need-returns-7
 returns-7 c =
-    rows-answer (c .before .before .before .before .before .before .before .before) (is-above 1 mostRows _ (c .if7 .taken))
+    rows-answer (c .before .before .before .before .before .before .before .before)
+    (is-above 1 mostRows _ (c .if7 .taken))
 
 returns-8 : tie.Need-returns-8
 returns-8 c =

@@ -15,7 +15,8 @@ returns-2 c = simp (eq-eqb _ _ (c .before .before .before .if1 .left), lt-leb _ 
 
 returns-3 : tie.Need-returns-3
 unfolding legalBetween
-returns-3 c = simp (eq-eqb _ _ (c .before .before .before .before .before .if1 .left), le-leb _ _ (c .before .before .if2 .left))
+returns-3 c =
+    simp (eq-eqb _ _ (c .before .before .before .before .before .if1 .left), le-leb _ _ (c .before .before .if2 .left))
 
 pub legal-between-spec : {M : Type 1} → statement M
 legal-between-spec = tie.close (tie.spec returns returns-2 returns-3)

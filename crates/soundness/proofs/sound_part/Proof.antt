@@ -19,7 +19,8 @@ returns : tie.Need-returns
 unfolding counted
 returns c =
     let a = c .before .before .before .args in
-    sound-over (widthOf (a .kind)) (a .capacity) (recordBetween (a .kind) (a .first .0) (a .last .0)) (a .part .now) (c .if1 .taken)
+    sound-over (widthOf (a .kind)) (a .capacity) (recordBetween (a .kind) (a .first .0) (a .last .0)) (a .part .now)
+    (c .if1 .taken)
 
 -- the counted records have room
 room : (c : tie.Else1)
@@ -27,7 +28,8 @@ room : (c : tie.Else1)
     roomOf (widthOf (a .kind)) (getD (a .part .now) 0 0) ≤ length (a .part .now))
 room c =
     let a = c .before .before .before .args in
-    omega (arith, room-order (widthOf (a .kind)) (getD (a .part .now) 0 0) (a .capacity) (c .if1 .left), c .before .before .before .pre)
+    let less = room-order (widthOf (a .kind)) (getD (a .part .now) 0 0) (a .capacity) (c .if1 .left) in
+    omega (arith, c .before .before .before .pre)
 
 records-between-requires : tie.Need-records-between-requires
 records-between-requires c κs = room c
@@ -58,8 +60,8 @@ returns-3 c =
     let past = c .before .before in
     let a = past .before .before .before .before .before .args in
     rw (c .before .width .ensures) at (c .zeros-from .ensures)
-    ∙ sound-by-tail (widthOf (a .kind)) (a .capacity) (recordBetween (a .kind) (a .first .0) (a .last .0)) (a .part .now)
-    (past .before .before .if1 .left)
+    ∙ sound-by-tail (widthOf (a .kind)) (a .capacity) (recordBetween (a .kind) (a .first .0) (a .last .0))
+    (a .part .now) (past .before .before .if1 .left)
     (sym (past .before .records-between .ensures) ∙ not-false (past .before .records-between .result) (past .if2 .left))
 
 pub sound-part-spec : {M : Type 1} → statement M

@@ -38,7 +38,8 @@ loop-holds : tie.Need-loop-holds Inv-loop μ-loop
 loop-holds c =
     let a = c .before .before .args in
     checked-start
-    (λ i. soundPart (widthOf (a .kind)) (a .capacity) (recordAtHome (a .kind) (a .p) i) (partitionAt (a .room) (a .store .now) i))
+    (λ i. soundPart (widthOf (a .kind)) (a .capacity) (recordAtHome (a .kind) (a .p) i)
+    (partitionAt (a .room) (a .store .now) i))
     (cutsOf (a .p)) (a .room) (a .p .count)
 
 mul-last : tie.Need-mul-last Inv-loop μ-loop
@@ -107,8 +108,8 @@ sound-part-requires c κs =
     let t = c .before .before in
     let start = t .before .before .before .before .before in
     let a = start .args in
-    lent-room (roomOf (widthOf (a .kind)) (a .capacity)) (t .before .before .loop .at) (a .room) (a .store .now) (room t)
-    (start .pre .1 .roomy)
+    lent-room (roomOf (widthOf (a .kind)) (a .capacity)) (t .before .before .loop .at) (a .room) (a .store .now)
+    (room t) (start .pre .1 .roomy)
 
 returns : tie.Need-returns Inv-loop μ-loop
 unfolding soundParts
@@ -135,7 +136,8 @@ loop-again c =
     let at = t .before .before .loop in
     checked-next _ (cutsOf (a .p)) (a .room) (a .p .count) (at .first .0) (at .at) (at .i) _ (t .if1 .taken)
     (sym (cut-at (a .p) (at .i) (t .if1 .taken)))
-    (turn (c .before .before) .goes (not-false (c .before .before .sound-part .result) (c .before .if2 .left))) (at .inv)
+    (turn (c .before .before) .goes (not-false (c .before .before .sound-part .result) (c .before .if2 .left)))
+    (at .inv)
 
 returns-2 : tie.Need-returns-2 Inv-loop μ-loop
 unfolding soundParts
