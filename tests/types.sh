@@ -1,8 +1,11 @@
 #!/bin/bash
 # The types keep lane numbers and minutes apart (document 01: "A lane number handed over where a minute belongs is turned
-# down by the compiler"). Two crates differ in one word: `right_type` asks plan::home for the lane of a Chronon and must be
-# proved; `wrong_type` hands over a PartitionIndex instead and must be refused, by the compiler's type error.
-# Prints 'types: ok' and exits 0; else says what was wrong and exits 1. Works from any folder and leaves nothing behind.
+# down by the compiler"). For each crate with such a parameter there is a call of each kind below: a minute where a minute
+# belongs (CHRONON) and a lane number where one belongs (INDEX). The crate `right_types` has all of these calls and must
+# compile; in `wrong_types` each minute is handed over as a lane number and each lane number as a minute, and the compiler
+# must turn down every one, by a type error in its line. No prover is asked about the two crates.
+# Prints 'types: ok, N calls' and exits 0; else says what was wrong and exits 1. Works from any folder and leaves nothing
+# behind.
 set -eu
 
 root=$(cd "$(dirname "${BASH_SOURCE[0]}")/.." && pwd -P)
@@ -10,54 +13,81 @@ room=$(mktemp -d)
 trap 'rm -rf "$room"' EXIT
 fail() { echo "types: $*" >&2; exit 1; }
 
-# a repository of the crates that the call needs
+# one call to a line, each with CHRONON or INDEX once; the crate is the path's first word
+cat >"$room/calls" <<'CALLS'
+plan::home(p, CHRONON);
+plan::covers(1, [CHRONON; 64]);
+plan::with_cuts(p, [CHRONON; 64]);
+store::partition(words, 5, INDEX);
+store::append_tuple(more, 5, INDEX, t);
+rows::count::gained(side, t, words, site, INDEX);
+rows::count::examined_from(words, 5, INDEX, 1);
+rows::add::add_from(side, t, words, more, 5, INDEX);
+removal::take_from(side, t, words, more, 5, INDEX);
+removal::times_from(side, t, words, 5, INDEX, 1, row);
+cache::started(words, CHRONON);
+cache::started_from(words, 5, INDEX, 1, m);
+sweep::count::matches_in(side, words, CHRONON, words);
+sweep::count::rows_of(p, words, words, INDEX);
+sweep::partitions::join_run(side, words, 1, words, more, 5, INDEX);
+join::repartition(p, [CHRONON; 64], words, words, words);
+lines::Line::Lane(CHRONON);
+CALLS
+
+# a repository of the crates, with what is proved already, if it is: rt proves a crate again whose files are not the same
 cp "$root/crates.txt" "$room/crates.txt"
-mkdir "$room/crates"
-for crate in lists interval plan; do
-    mkdir "$room/crates/$crate"
+mkdir -p "$room/crates" "$room/target/rlib" "$room/target/stamp"
+for crate in "$root"/crates/*; do
+    name=${crate##*/}
+    mkdir "$room/crates/$name"
     for part in src specs proofs; do
-        cp -R "$root/crates/$crate/$part" "$room/crates/$crate/$part"
+        [ ! -d "$crate/$part" ] || cp -R "$crate/$part" "$room/crates/$name/$part"
     done
-    # what is proved already, if it is: rt proves a crate again whose files are not the same
-    if [ -d "$root/target/rlib/$crate.rlib" ] && [ -f "$root/target/stamp/$crate" ]; then
-        mkdir -p "$room/target/rlib" "$room/target/stamp"
-        cp -R "$root/target/rlib/$crate.rlib" "$room/target/rlib/"
-        cp "$root/target/stamp/$crate" "$room/target/stamp/"
+    if [ -d "$root/target/rlib/$name.rlib" ] && [ -f "$root/target/stamp/$name" ]; then
+        cp -R "$root/target/rlib/$name.rlib" "$room/target/rlib/"
+        cp "$root/target/stamp/$name" "$room/target/stamp/"
     fi
 done
+uses=$(sed -n 's/::.*//p' "$room/calls" | sort -u | tr '\n' ' ')
+below=$(for crate in $uses; do sed -n "s/^$crate://p" "$root/crates.txt"; done | tr ' ' '\n' | sort -u | tr '\n' ' ')
 
-# the two crates: the same text, but for the type of what is handed over
-add_crate() { # NAME TYPE
+# the two crates: the same calls, but for the types of what is handed over
+add_crate() { # NAME MINUTE LANE
     mkdir -p "$room/crates/$1/src"
-    cat >"$room/crates/$1/src/lib.rt" <<CODE
-// The partition of a chronon, asked with a $2.
-use interval::time::Chronon;
-use plan::PartitionIndex;
-use plan::Partitioning;
-
-pub fn partition_of(p: Partitioning, m: u64) -> PartitionIndex {
-    plan::home(p, $2(m))
+    {
+        echo '// Calls with minutes and lane numbers.'
+        for name in interval::time::Chronon interval::tuple::Row interval::tuple::Tuple plan::PartitionIndex \
+            plan::Partitioning rows::Side rows::Site; do
+            echo "use $name;"
+        done
+        n=0
+        while read -r call; do
+            n=$((n + 1))
+            echo
+            echo "pub fn call_$n(p: Partitioning, side: Side, t: Tuple, row: Row, site: Site, m: Chronon, k: u64, words: &[u64], more: &mut [u64]) {"
+            echo "    $call" | sed "s/CHRONON/$2(k)/; s/INDEX/$3(k)/"
+            echo '}'
+        done <"$room/calls"
+    } >"$room/crates/$1/src/lib.rt"
+    echo "$1: $(echo $uses $below | tr ' ' '\n' | sort -u | tr '\n' ' ')" >>"$room/crates.txt"
 }
-CODE
-    echo "$1: plan interval" >>"$room/crates.txt"
-}
-add_crate right_type Chronon
-add_crate wrong_type PartitionIndex
+add_crate right_types Chronon PartitionIndex
+add_crate wrong_types PartitionIndex Chronon
 
 cd "$room"
-rt check right_type >right.out 2>&1 || { tail -n 20 right.out >&2; fail "a Chronon was not taken where one belongs"; }
-grep -q '^rt: right_type proved' right.out || { tail -n 20 right.out >&2; fail "right_type was not proved"; }
+rt mir right_types >right.out 2>&1 || { tail -n 20 right.out >&2; fail "a right call was turned down"; }
+if grep -q ': error' right.out; then tail -n 20 right.out >&2; fail "a right call was turned down"; fi
 
 status=0
-rt check wrong_type >wrong.out 2>&1 || status=$?
-[ "$status" -ne 0 ] || fail "a PartitionIndex was taken where a Chronon belongs"
-[ "$status" -eq 1 ] || { tail -n 20 wrong.out >&2; fail "the toolchain failed on wrong_type (exit $status)"; }
-
-# the refusal is one error, that of the types, at the call; nothing was left to a proof
+rt mir wrong_types >wrong.out 2>&1 || status=$?
+[ "$status" -ne 0 ] || fail "no wrong call was turned down"
+calls=$(wc -l <calls)
+for n in $(seq "$calls"); do
+    at=$(grep -n "^pub fn call_$n(" crates/wrong_types/src/lib.rt | cut -d: -f1)
+    grep -Eq "wrong_types/src/lib\.rt:$((at + 1)):[0-9]+: error\[mismatched-types\]: expected .*(Chronon|PartitionIndex).*, found .*(Chronon|PartitionIndex)" wrong.out \
+        || { tail -n 40 wrong.out >&2; fail "a wrong call was taken: $(sed -n "${n}p" calls)"; }
+done
 errors=$(grep -c ': error' wrong.out || true)
-[ "$errors" -eq 1 ] || { tail -n 20 wrong.out >&2; fail "wrong_type has $errors errors, and should have one"; }
-grep -q 'wrong_type/src/lib\.rt:[0-9:]*: error\[mismatched-types\]: expected `Chronon`, found `PartitionIndex`' wrong.out \
-    || { tail -n 20 wrong.out >&2; fail "wrong_type was refused, and not for its types"; }
-if grep -q '^logic=' wrong.out; then fail "wrong_type came to the prover"; fi
+[ "$errors" -eq "$calls" ] || { tail -n 40 wrong.out >&2; fail "$errors errors for $calls wrong calls"; }
 
-echo "types: ok"
+echo "types: ok, $calls calls"
