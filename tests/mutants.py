@@ -67,6 +67,11 @@ EDITS = [
     ),
     ('removal/lib.rt', 'store::remove(rows, ROW_WIDTH, room, i, place);', 'store::remove(rows, ROW_WIDTH, room, i, 0);'),
     ('removal/lib.rt', 'let mut taken: u64 = 0;', 'let mut taken: u64 = 1;'),
+    (
+        'removal/lib.rt',
+        'let partners = store::partition(other, site.tuples.words, PartitionIndex(j));',
+        'let partners = store::partition(other, site.tuples.words, PartitionIndex(i));',
+    ),
     # one lane
     ('part/lib.rt', 'copy(part, width, last, k);', 'copy(part, width, last, 0);'),
     ('part/lib.rt', 'clear(&mut part[at..end]);', ''),
