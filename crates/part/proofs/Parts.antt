@@ -491,13 +491,12 @@ counted-empty (suc n) = refl
 pub records-empty : (w n : ℕ) → recordsIn w (replicate n 0) ≡ []
 records-empty w n = records-none w (replicate n 0) (counted-empty n)
 
--- no tuples
-pub tuples-empty : (n : ℕ) → tuplesIn (replicate n 0) ≡ []
-tuples-empty n = tuples-none (replicate n 0) (counted-empty n)
+-- no values, so no rows
+pub values-empty : {A : Type 0} (kind : Kind A) (n : ℕ) → kind .held (replicate n 0) ≡ []
+values-empty kind n = values-none kind (replicate n 0) (counted-empty n)
 
--- no rows
 pub rows-empty : (n : ℕ) → rowsIn (replicate n 0) ≡ []
-rows-empty n = rows-none (replicate n 0) (counted-empty n)
+rows-empty = values-empty rows
 
 -- it is sound
 pub sound-empty : (w capacity : ℕ) (ok : List ℕ → Bool)
