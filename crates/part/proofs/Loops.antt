@@ -1,10 +1,10 @@
 -- The loops of `store::part`, over any list and any test.
 -- In order: `Tallied`, k members are seen and n of them pass, with its laws; `Passed`, no member before place k passes,
--- with its laws; `Cleared`, the words before place i are 0, with its laws.
+-- with its laws, and these of a partition's records; `Cleared`, the words before place i are 0, with its laws.
 -- Assumes nothing.
 use mathlib.Core.Bool.{Bool, true, false}
 use mathlib.Core.List.{List, _++_, append-nil}
-use mathlib.Core.Path.{_≡_, sym, ap, _∙_}
+use mathlib.Core.Path.{_≡_, refl, sym, ap, _∙_}
 use Prim.Native.Nat.{ℕ, suc, _+_, _≤_, _<_}
 use native.Mathlib.Nat.{add-zero}
 use native.Mathlib.Numerals.{add-one}
@@ -15,6 +15,8 @@ use lib.Seq.{drop-cons}
 use Rattle.lists.specs.Choice.{pick}
 use Rattle.lists.specs.Members.{tally, placeOf}
 use Rattle.lists.proofs.Tally.{tally-end, tally-next, tally-le}
+use Rattle.part.specs.Part.{counted}
+use Rattle.part.proofs.Parts.{Kind, length-values, value-in}
 
 -- ---- counting the members that pass: k are seen, n of them pass
 
@@ -79,6 +81,26 @@ module _ {A : Type 0} (p : A → Bool) (xs : List A) where
   -- none passes
   pub passed-all : (k : ℕ) → length xs ≤ k → Passed p xs k → k ≡ placeOf p xs
   passed-all k h s = omega (arith, s .place, s .within, ap (placeOf p) (drop-of-length-le xs h))
+
+-- the same of a partition's counted records, tuples or rows: the test is asked of record k
+module _ {A : Type 0} (kind : Kind A) (part : List ℕ) {p : A → Bool} {k : ℕ} where
+  place-turn : k < counted part → Passed p (kind .held part) k
+      → PlaceTurn p (kind .held part) k (p (kind .at part k))
+  place-turn h s =
+      let x = kind .at part k in
+      let within : k < length (kind .held part) = omega (arith, length-values kind part) in
+      passed-turn p (kind .held part) k x (p x) within (value-in kind k part x h) refl s
+
+  pub place-here : k < counted part → p (kind .at part k) ≡ true → Passed p (kind .held part) k
+      → k ≡ placeOf p (kind .held part)
+  place-here h e s = place-turn h s .here e
+
+  pub place-more : k < counted part → p (kind .at part k) ≡ false → Passed p (kind .held part) k
+      → Passed p (kind .held part) (k + 1)
+  place-more h e s = place-turn h s .more e
+
+  pub place-none : counted part ≤ k → Passed p (kind .held part) k → k ≡ placeOf p (kind .held part)
+  place-none h s = passed-all p (kind .held part) k (omega (arith, length-values kind part)) s
 
 -- ---- clearing: the words before place i are 0, the others as they were
 

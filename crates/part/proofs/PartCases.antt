@@ -83,13 +83,10 @@ writes w a b c =
     ∷ ((swapped w 0 0 (two a b), two a b)
     ∷ []))))))))))))
 
-tuples-written : Cases (writes tupleWidth (tupleWords t₁) (tupleWords t₂) (tupleWords t₃))
+written : Cases (writes tupleWidth (tupleWords t₁) (tupleWords t₂) (tupleWords t₃))
+    × Cases (writes rowWidth (rowWords r₁) (rowWords r₂) (rowWords r₃))
 unfolding Cases writes counted appended copied swapped removed
-tuples-written = refl
-
-rows-written : Cases (writes rowWidth (rowWords r₁) (rowWords r₂) (rowWords r₃))
-unfolding Cases writes counted appended copied swapped removed
-rows-written = refl
+written = (refl, refl)
 
 -- ---- what is sound, where a record is legal if its label is not 0
 
@@ -147,12 +144,9 @@ rows-looked = refl
 
 -- ---- record k, and the counted records in order
 
-tuples-read : (tuplesIn (two (tupleWords t₁) (tupleWords t₂)) ≡ t₁ ∷ (t₂ ∷ []))
-    × (tupleAt (two (tupleWords t₁) (tupleWords t₂)) 1 ≡ t₂)
-unfolding counted recordsIn tuplesIn tupleAt
-tuples-read = (refl, refl)
+Read : {A : Type 0} → (A → List ℕ) → (List ℕ → List A) → (List ℕ → ℕ → A) → A → A → Type 0
+Read words held at a b = (held (two (words a) (words b)) ≡ a ∷ (b ∷ [])) × (at (two (words a) (words b)) 1 ≡ b)
 
-rows-read : (rowsIn (two (rowWords r₁) (rowWords r₂)) ≡ r₁ ∷ (r₂ ∷ []))
-    × (rowAt (two (rowWords r₁) (rowWords r₂)) 1 ≡ r₂)
-unfolding counted recordsIn rowsIn rowAt
-rows-read = (refl, refl)
+read : Read tupleWords tuplesIn tupleAt t₁ t₂ × Read rowWords rowsIn rowAt r₁ r₂
+unfolding Read counted recordsIn tuplesIn tupleAt rowsIn rowAt
+read = ((refl, refl), (refl, refl))

@@ -1,14 +1,15 @@
 -- Laws of one partition as words (specs/Part), over the width w of a record.
 -- In order: runs of stores and the room of records; the part after an append and after a removal, as its count word and
 -- the words after it; lengths and counts; each record, no records, the records after an append and after a removal; the
--- same of tuples and of rows, and their words; what a sound part is, and that it stays sound; an empty part; the place
--- that a removal frees. Records moved within a part are in Movers.
+-- same of the values that the words make, stated once, over their `Kind`, and then of tuples and of rows; what a sound
+-- part is, and that it stays sound; an empty part; the place that a removal frees. Records moved within a part are in
+-- Movers.
 -- Assumes nothing.
 use mathlib.Core.Bool.{Bool, true}
 use mathlib.Core.List.{List, [], _∷_, _++_, map, map-append}
 use mathlib.Core.Path.{_≡_, refl, sym, ap, _∙_}
 use Prim.Native.Nat.{ℕ, zero, suc, _+_, _-_, _*_, _≤_, _<_}
-use native.Mathlib.Nat.{add-zero, mul-comm, mul-zero}
+use native.Mathlib.Nat.{mul-comm, mul-zero}
 use native.Mathlib.Numerals.{one-add}
 use native.Mathlib.Omega.{arith}
 use lib.ListN.{length, getD, take, drop, set, replicate, length-set, length-map, length-replicate, take-append-drop}
@@ -169,7 +170,7 @@ module _ (w : ℕ) where
       at-last : (m - 1) * w + w ≤ length put
       at-last = omega (arith, length-put (k * w) w ws last at-k e, fits (m - 1) (omega arith))
 
--- ---- tuples and rows: first of any value made of a record's words
+-- ---- values made of a record's words: of any kind, then tuples and rows
 
 -- a value made of each member: of the first members, of a member overwritten, of member k
 map-take : {A : Type 0} (f : List ℕ → A) (n : ℕ) (rs : List (List ℕ)) → map f (take n rs) ≡ take n (map f rs)
@@ -189,104 +190,159 @@ map-getD f [] k d r h = absurd (omega arith)
 map-getD f (s ∷ rs) zero d r h = refl
 map-getD f (s ∷ rs) (suc k) d r h = map-getD f rs k d r (omega arith)
 
-module _ {A : Type 0} (f : List ℕ → A) (w : ℕ) where
-  -- as many values as the count says
-  length-values : (part : List ℕ) → length (map f (recordsIn w part)) ≡ counted part
-  length-values part = length-map (recordsIn w part) f ∙ length-records-in w part
+-- what the laws ask of tuples and of rows alike: a record's width, the value that its words make, the counted values,
+-- and value k
+pub record Kind (A : Type 0) : Type 0 where
+  pub width : ℕ
+  pub value : List ℕ → A
+  pub held : List ℕ → List A
+  pub at : List ℕ → ℕ → A
+  pub held-is : (part : List ℕ) → held part ≡ map value (recordsIn width part)
+  pub at-is : (part : List ℕ) (k : ℕ) → at part k ≡ value (recordAt width k (drop 1 part))
 
-  -- value k, whatever d
-  value-in : (k : ℕ) (part : List ℕ) (d : A) → k < counted part
-      → getD (map f (recordsIn w part)) k d ≡ f (recordAt w k (drop 1 part))
+-- an append puts the value after the others
+abbrev pub Appends : {A : Type 0} → Kind A → (A → List ℕ) → Type 0
+Appends kind words = (x : _) (part : List ℕ) → roomOf (kind .width) (counted part + 1) ≤ length part
+    → kind .held (appended (kind .width) (words x) part) ≡ kind .held part ++ (x ∷ [])
+
+-- a removal takes value k out: the others are there, each as often
+abbrev pub Removes : {A : Type 0} → Kind A → (A → A → Bool) → Type 0
+Removes kind same = (k : ℕ) (part : List ℕ) → k < counted part → roomOf (kind .width) (counted part) ≤ length part
+    → Same same (kind .held part) (kind .at part k ∷ kind .held (removed (kind .width) k part))
+
+module _ {A : Type 0} (kind : Kind A) where
+  -- value k, by its words as a part of the whole
+  value-part : (k : ℕ) (part : List ℕ)
+      → kind .at part k ≡ kind .value (partAt (roomOf (kind .width) k) (kind .width) part)
+  value-part k part = kind .at-is part k ∙ ap (kind .value) (record-part (kind .width) k part)
+
+  -- there are as many values as the count says
+  pub length-values : (part : List ℕ) → length (kind .held part) ≡ counted part
+  length-values part =
+      rw (kind .held-is part)
+      (length-map (recordsIn (kind .width) part) (kind .value) ∙ length-records-in (kind .width) part)
+
+  -- value k of them, whatever d
+  pub value-in : (k : ℕ) (part : List ℕ) (d : A) → k < counted part → getD (kind .held part) k d ≡ kind .at part k
   value-in k part d h =
-      map-getD f (recordsIn w part) k d [] (omega (arith, length-records-in w part)) ∙ ap f (record-in w k part [] h)
+      let rs = recordsIn (kind .width) part in
+      rw (kind .held-is part, kind .at-is part k)
+      (map-getD (kind .value) rs k d [] (omega (arith, length-records-in (kind .width) part))
+      ∙ ap (kind .value) (record-in (kind .width) k part [] h))
 
-  -- the values after an append
-  values-appended : (r part : List ℕ) → roomOf w (counted part + 1) ≤ length part → length r ≡ w
-      → map f (recordsIn w (appended w r part)) ≡ map f (recordsIn w part) ++ (f r ∷ [])
-  values-appended r part h e = ap (map f) (records-appended w r part h e) ∙ map-append f (recordsIn w part) (r ∷ [])
+  -- a part that counts none has no values
+  values-none : (part : List ℕ) → counted part ≡ 0 → kind .held part ≡ []
+  values-none part e = kind .held-is part ∙ ap (map (kind .value)) (records-none (kind .width) part e)
 
-  -- the values after a removal are the others, each as often
-  values-removed : (same : A → A → Bool) (k : ℕ) (part : List ℕ) → k < counted part
-      → roomOf w (counted part) ≤ length part
-      → Same same (map f (recordsIn w part))
-      (f (recordAt w k (drop 1 part)) ∷ map f (recordsIn w (removed w k part)))
+  -- the values after an append, where the words appended make x
+  values-appended : (words : A → List ℕ) → ((x : A) → length (words x) ≡ kind .width)
+      → ((x : A) → kind .value (words x) ≡ x) → Appends kind words
+  values-appended words long made x part h =
+      let rs = recordsIn (kind .width) part in
+      rw (kind .held-is part, kind .held-is (appended (kind .width) (words x) part))
+      (ap (map (kind .value)) (records-appended (kind .width) (words x) part h (long x))
+      ∙ map-append (kind .value) rs (words x ∷ [])
+      ∙ ap (λ (y : A). map (kind .value) rs ++ (y ∷ [])) (made x))
+
+  -- the values after a removal
+  values-removed : (same : A → A → Bool) → Removes kind same
   values-removed same k part h l =
-      rw (moved, ← value-in k part (f []) h)
+      rw (kind .held-is (removed w k part), moved, ← value-in k part (f []) h)
       (same-overwrite same values (counted part - 1) k (f []) (omega (arith, length-values part)) (omega arith))
     where
+      w : ℕ
+      w = kind .width
+
+      f : List ℕ → A
+      f = kind .value
+
       values : List A
-      values = map f (recordsIn w part)
+      values = kind .held part
 
       moved : map f (recordsIn w (removed w k part))
           ≡ take (counted part - 1) (set values k (getD values (counted part - 1) (f [])))
       moved =
           ap (map f) (records-removed w k part h l)
           ∙ map-take f (counted part - 1) (set (recordsIn w part) k (getD (recordsIn w part) (counted part - 1) []))
-          ∙ rw (map-set f (recordsIn w part) k, List·getD-map f (recordsIn w part) (counted part - 1) [])
+          ∙ rw (
+            kind .held-is part,
+            map-set f (recordsIn w part) k,
+            List·getD-map f (recordsIn w part) (counted part - 1) [],
+          )
 
--- tuple k, by its words as a part of the whole
-pub tuple-part : (k : ℕ) (part : List ℕ) → tupleAt part k ≡ tupleOf (partAt (roomOf tupleWidth k) tupleWidth part)
+-- tuples
+pub tuples-are : (part : List ℕ) → tuplesIn part ≡ map tupleOf (recordsIn tupleWidth part)
+unfolding tuplesIn
+tuples-are part = refl
+
+pub tuple-is : (part : List ℕ) (k : ℕ) → tupleAt part k ≡ tupleOf (recordAt tupleWidth k (drop 1 part))
 unfolding tupleAt
-tuple-part k part = ap tupleOf (record-part tupleWidth k part)
+tuple-is part k = refl
 
--- there are as many tuples as the count says
+abbrev pub tuples : Kind Tuple
+tuples = record {
+  width = tupleWidth;
+  value = tupleOf;
+  held = tuplesIn;
+  at = tupleAt;
+  held-is = tuples-are;
+  at-is = tuple-is;
+}
+
 pub length-tuples : (part : List ℕ) → length (tuplesIn part) ≡ counted part
-unfolding tuplesIn
-length-tuples part = length-values tupleOf tupleWidth part
+length-tuples = length-values tuples
 
--- tuple k of them, whatever d
 pub tuple-in : (k : ℕ) (part : List ℕ) (d : Tuple) → k < counted part → getD (tuplesIn part) k d ≡ tupleAt part k
-unfolding tuplesIn tupleAt
-tuple-in k part d h = value-in tupleOf tupleWidth k part d h
+tuple-in = value-in tuples
 
--- an append puts the tuple after the others
-pub tuples-appended : (t : Tuple) (part : List ℕ) → roomOf tupleWidth (counted part + 1) ≤ length part
-    → tuplesIn (appended tupleWidth (tupleWords t) part) ≡ tuplesIn part ++ (t ∷ [])
-unfolding tuplesIn
-tuples-appended t part h = values-appended tupleOf tupleWidth (tupleWords t) part h refl
+pub tuple-part : (k : ℕ) (part : List ℕ) → tupleAt part k ≡ tupleOf (partAt (roomOf tupleWidth k) tupleWidth part)
+tuple-part = value-part tuples
 
--- a removal takes tuple k out: the others are there, each as often
-pub tuples-removed : (k : ℕ) (part : List ℕ) → k < counted part → roomOf tupleWidth (counted part) ≤ length part
-    → Same sameTuple (tuplesIn part) (tupleAt part k ∷ tuplesIn (removed tupleWidth k part))
-unfolding tuplesIn tupleAt
-tuples-removed k part h l = values-removed tupleOf tupleWidth sameTuple k part h l
-
--- a part that counts none has no tuples
 pub tuples-none : (part : List ℕ) → counted part ≡ 0 → tuplesIn part ≡ []
-unfolding tuplesIn
-tuples-none part e = ap (map tupleOf) (records-none tupleWidth part e)
+tuples-none = values-none tuples
 
--- row k, by its words as a part of the whole
-pub row-part : (k : ℕ) (part : List ℕ) → rowAt part k ≡ rowOf (partAt (roomOf rowWidth k) rowWidth part)
+pub tuples-appended : Appends tuples tupleWords
+tuples-appended = values-appended tuples tupleWords (λ t. refl) (λ t. refl)
+
+pub tuples-removed : Removes tuples sameTuple
+tuples-removed = values-removed tuples sameTuple
+
+-- rows
+pub rows-are : (part : List ℕ) → rowsIn part ≡ map rowOf (recordsIn rowWidth part)
+unfolding rowsIn
+rows-are part = refl
+
+pub row-is : (part : List ℕ) (k : ℕ) → rowAt part k ≡ rowOf (recordAt rowWidth k (drop 1 part))
 unfolding rowAt
-row-part k part = ap rowOf (record-part rowWidth k part)
+row-is part k = refl
 
--- there are as many rows as the count says
+abbrev pub rows : Kind Row
+rows = record {
+  width = rowWidth;
+  value = rowOf;
+  held = rowsIn;
+  at = rowAt;
+  held-is = rows-are;
+  at-is = row-is;
+}
+
 pub length-rows : (part : List ℕ) → length (rowsIn part) ≡ counted part
-unfolding rowsIn
-length-rows part = length-values rowOf rowWidth part
+length-rows = length-values rows
 
--- row k of them, whatever d
 pub row-in : (k : ℕ) (part : List ℕ) (d : Row) → k < counted part → getD (rowsIn part) k d ≡ rowAt part k
-unfolding rowsIn rowAt
-row-in k part d h = value-in rowOf rowWidth k part d h
+row-in = value-in rows
 
--- an append puts the row after the others
-pub rows-appended : (r : Row) (part : List ℕ) → roomOf rowWidth (counted part + 1) ≤ length part
-    → rowsIn (appended rowWidth (rowWords r) part) ≡ rowsIn part ++ (r ∷ [])
-unfolding rowsIn
-rows-appended r part h = values-appended rowOf rowWidth (rowWords r) part h refl
+pub row-part : (k : ℕ) (part : List ℕ) → rowAt part k ≡ rowOf (partAt (roomOf rowWidth k) rowWidth part)
+row-part = value-part rows
 
--- a removal takes row k out: the others are there, each as often
-pub rows-removed : (k : ℕ) (part : List ℕ) → k < counted part → roomOf rowWidth (counted part) ≤ length part
-    → Same sameRow (rowsIn part) (rowAt part k ∷ rowsIn (removed rowWidth k part))
-unfolding rowsIn rowAt
-rows-removed k part h l = values-removed rowOf rowWidth sameRow k part h l
-
--- a part that counts none has no rows
 pub rows-none : (part : List ℕ) → counted part ≡ 0 → rowsIn part ≡ []
-unfolding rowsIn
-rows-none part e = ap (map rowOf) (records-none rowWidth part e)
+rows-none = values-none rows
+
+pub rows-appended : Appends rows rowWords
+rows-appended = values-appended rows rowWords (λ r. refl) (λ r. refl)
+
+pub rows-removed : Removes rows sameRow
+rows-removed = values-removed rows sameRow
 
 -- ---- a sound part
 
@@ -435,13 +491,12 @@ counted-empty (suc n) = refl
 pub records-empty : (w n : ℕ) → recordsIn w (replicate n 0) ≡ []
 records-empty w n = records-none w (replicate n 0) (counted-empty n)
 
--- no tuples
-pub tuples-empty : (n : ℕ) → tuplesIn (replicate n 0) ≡ []
-tuples-empty n = tuples-none (replicate n 0) (counted-empty n)
+-- no values, so no rows
+pub values-empty : {A : Type 0} (kind : Kind A) (n : ℕ) → kind .held (replicate n 0) ≡ []
+values-empty kind n = values-none kind (replicate n 0) (counted-empty n)
 
--- no rows
 pub rows-empty : (n : ℕ) → rowsIn (replicate n 0) ≡ []
-rows-empty n = rows-none (replicate n 0) (counted-empty n)
+rows-empty = values-empty rows
 
 -- it is sound
 pub sound-empty : (w capacity : ℕ) (ok : List ℕ → Bool)

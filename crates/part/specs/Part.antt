@@ -2,15 +2,15 @@
 -- what the writers leave. The width w of a record is a tuple's or a row's.
 -- The laws are in proofs/Parts.antt.
 use mathlib.Core.Bool.{Bool, _&&_}
-use mathlib.Core.List.{List, [], _∷_, map}
+use mathlib.Core.List.{List, map}
 use Prim.Native.Nat.{ℕ, _+_, _-_, _*_}
-use lib.ListN.{length, getD, take, drop, set, replicate}
+use lib.ListN.{getD, drop, set, replicate}
 use lib.Seq.{sets}
 use lib.Dec.{leb}
 use Rattle.lists.specs.Members.{all, placeOf}
 use Rattle.lists.specs.Same.{times}
 use Rattle.lists.specs.Words.{partAt, zeros, recordsOf, recordAt}
-use Rattle.interval.specs.Tuple.{tupleWidth, tupleOf, tupleWords, sameTuple, rowWidth, rowOf, rowWords, sameRow}
+use Rattle.interval.specs.Tuple.{tupleWidth, tupleOf, sameTuple, rowWidth, rowOf, sameRow}
 use Rattle.interval.specs.declared.tuple.Tuple.{Tuple}
 use Rattle.interval.specs.declared.tuple.Row.{Row}
 

@@ -90,10 +90,6 @@ tuple-lengths =
     ∷ ((rowless, 27, false)
     ∷ []))))))))
 
-tuple-lengths-hold : Lengths fitsTuples tuple-lengths
-unfolding Lengths tuple-lengths firstOf cutsOf cover planNumber legalPlan fitsTuples
-tuple-lengths-hold = (refl, (refl, (refl, (refl, (refl, (refl, (refl, (refl, (refl, tt)))))))))
-
 row-lengths : List (Partitioning × ℕ × Bool)
 row-lengths =
     (p, 18, true)
@@ -107,15 +103,24 @@ row-lengths =
     ∷ ((rowless, 3, false)
     ∷ []))))))))
 
-row-lengths-hold : Lengths fitsRows row-lengths
-unfolding Lengths row-lengths firstOf cutsOf cover planNumber legalPlan fitsRows
-row-lengths-hold = (refl, (refl, (refl, (refl, (refl, (refl, (refl, (refl, (refl, tt)))))))))
+lengths-hold : Lengths fitsTuples tuple-lengths × Lengths fitsRows row-lengths
+unfolding Lengths tuple-lengths row-lengths firstOf cutsOf cover planNumber legalPlan fitsTuples fitsRows
+lengths-hold = (
+  (refl, (refl, (refl, (refl, (refl, (refl, (refl, (refl, (refl, tt))))))))),
+  (refl, (refl, (refl, (refl, (refl, (refl, (refl, (refl, (refl, tt))))))))),
+)
 
--- ---- tuple stores of the plan's length that are sound, and stores that are not
+-- ---- stores of the plan's length that are sound, and stores that are not
 
-Tuples : Bool → List (Partitioning × List ℕ) → Type 0
-Tuples answer [] = Unit {0}
-Tuples answer (c ∷ cs) = ((fitsTuples (c .0) (length (c .1)) && soundTuples (c .0) (c .1)) ≡ answer) × Tuples answer cs
+Sounds : (Partitioning → ℕ → Bool) → (Partitioning → List ℕ → Bool) → Bool → List (Partitioning × List ℕ) → Type 0
+Sounds fits sound answer [] = Unit {0}
+Sounds fits sound answer (c ∷ cs) =
+    ((fits (c .0) (length (c .1)) && sound (c .0) (c .1)) ≡ answer) × Sounds fits sound answer cs
+
+-- ---- tuple stores
+
+abbrev Tuples : Bool → List (Partitioning × List ℕ) → Type 0
+Tuples = Sounds fitsTuples soundTuples
 
 -- no tuple; the first and the last chronon of each partition, a tuple that starts partitions before, two that are equal,
 -- the largest label and item number, all places taken
@@ -197,7 +202,7 @@ tuples-hold : Tuples true tuples-right
     × Tuples false tails
     × Tuples false illegals
     × Tuples false misfits
-unfolding Tuples tuples-right tuples-away counts tails illegals misfits firstOf labelCheck itemCheck validCheck tupleNumber legalTuple cutsOf cover planNumber legalPlan homeOf home counted recordsIn soundPart fitsTuples tupleAtHome soundTuplePart soundTuples
+unfolding Sounds tuples-right tuples-away counts tails illegals misfits firstOf labelCheck itemCheck validCheck tupleNumber legalTuple cutsOf cover planNumber legalPlan homeOf home counted recordsIn soundPart fitsTuples tupleAtHome soundTuplePart soundTuples
 tuples-hold = (
   (refl, (refl, (refl, (refl, (refl, (refl, (refl, (refl, (refl, (refl, tt)))))))))),
   (refl, (refl, (refl, (refl, (refl, (refl, tt)))))),
@@ -207,11 +212,10 @@ tuples-hold = (
   (refl, (refl, (refl, (refl, (refl, (refl, (refl, tt))))))),
 )
 
--- ---- rows stores of the plan's length that are sound, and stores that are not
+-- ---- rows stores
 
-Rows : Bool → List (Partitioning × List ℕ) → Type 0
-Rows answer [] = Unit {0}
-Rows answer (c ∷ cs) = ((fitsRows (c .0) (length (c .1)) && soundRows (c .0) (c .1)) ≡ answer) × Rows answer cs
+abbrev Rows : Bool → List (Partitioning × List ℕ) → Type 0
+Rows = Sounds fitsRows soundRows
 
 -- no row; the first and the last chronon of each partition, a row that starts partitions before, all places taken
 rows-right : List (Partitioning × List ℕ)
@@ -252,7 +256,7 @@ rows-wrong =
 
 -- each of them computes
 rows-hold : Rows true rows-right × Rows false rows-wrong
-unfolding Rows rows-right rows-wrong firstOf labelCheck itemCheck validCheck rowNumber legalRow cutsOf cover planNumber legalPlan homeOf home counted recordsIn soundPart fitsRows rowAtHome soundRowPart soundRows
+unfolding Sounds rows-right rows-wrong firstOf labelCheck itemCheck validCheck rowNumber legalRow cutsOf cover planNumber legalPlan homeOf home counted recordsIn soundPart fitsRows rowAtHome soundRowPart soundRows
 rows-hold = (
   (refl, (refl, (refl, (refl, (refl, (refl, (refl, (refl, tt)))))))),
   (refl, (refl, (refl, (refl, (refl, (refl, (refl, (refl, (refl, (refl, (refl, (refl, (refl, (refl, (refl, (refl, (refl, (refl, tt)))))))))))))))))),

@@ -20,7 +20,8 @@ use Rattle.lists.proofs.Choice.{and-left, and-right}
 use Rattle.lists.proofs.Below.{up-next, up-end}
 use Rattle.plan.specs.Plan.{planNumber, legalPlan}
 use Rattle.plan.specs.declared.Partitioning.{Partitioning}
-use Rattle.plan.proofs.Homes.{test-plan-legal}
+use Rattle.plan.proofs.Homes.{legal-plan, test-plan-legal}
+use Rattle.store.specs.Store.{tupleRoom, rowRoom}
 
 -- ---- a test of every partition: those from i on decide
 
@@ -50,6 +51,13 @@ module _ (f : ℕ → Bool) (n : ℕ) where
 -- 64 partitions of at most 20,481 words fit a machine's word
 pub length-fits : (n room : ℕ) → n ≤ 64 → room ≤ 20481 → Fits w64 (n * room)
 length-fits n room h g = record { fits = lt-of-le-of-lt (mul-le-mul h g) (lit< tt) }
+
+-- so do the words of a legal plan's tuple store and of its rows store
+pub tuples-fit : (p : Partitioning) → planNumber p ≡ 0 → Fits w64 (p .count * tupleRoom p)
+tuples-fit p h = length-fits (p .count) _ (legal-plan p h .most) (omega (arith, legal-plan p h .tuples-most))
+
+pub rows-fit : (p : Partitioning) → planNumber p ≡ 0 → Fits w64 (p .count * rowRoom p)
+rows-fit p h = length-fits (p .count) _ (legal-plan p h .most) (omega (arith, legal-plan p h .rows-most))
 
 -- a length that fits: the plan is legal, and the length is what it gives
 module _ (p : Partitioning) (n size : ℕ) where

@@ -1,6 +1,7 @@
 -- Laws of whole stores: a partition changed and the others kept; soundness, partition by partition; what a store holds, with
 -- one record more or fewer; each record in the partition it belongs to; the empty store.
--- The laws that do not speak of tuples or rows are stated once, over the partitions' room and number.
+-- The laws that do not speak of tuples or rows are stated once, over the partitions' room and number; so is what is said
+-- of tuple stores and of rows stores alike, over what specs/Store names for each (`SoundAt` and the like).
 -- Assumes nothing.
 use mathlib.Core.Bool.{Bool, true, false, _&&_}
 use mathlib.Core.List.{List, [], _∷_, _++_, map, append-assoc}
@@ -31,8 +32,7 @@ use Rattle.store.specs.Store.{tupleRoom, rowRoom, partitionAt, onPartiti
 use Rattle.store.specs.Store.{tupleAtHome, rowAtHome, soundTuplePart, soundRowPart, soundTuples, soundRows}
 use Rattle.store.specs.Store.{storedTuples, storedRows, tuplesAt, rowsAt}
 use Rattle.plan.specs.declared.Partitioning.{Partitioning}
-use Rattle.part.proofs.Parts.{sound-count, sound-records, sound-appended, sound-removed, sound-empty}
-use Rattle.part.proofs.Parts.{tuples-empty, rows-empty}
+use Rattle.part.proofs.Parts.{Kind, tuples, rows, values-empty, sound-records, sound-empty}
 
 -- ---- one partition changed: its length, the partition itself, the others
 
@@ -66,60 +66,76 @@ module _ (room n i : ℕ) (f : List ℕ → List ℕ) (ws : List ℕ) (long : le
 pub partition-length : (room n i : ℕ) (ws : List ℕ) → length ws ≡ n * room → i < n → length (partitionAt room ws i) ≡ room
 partition-length room n i ws long h = length-part (i * room) room ws (omega (arith, start-within i n room h))
 
--- ---- soundness, partition by partition
+-- ---- soundness, partition by partition: what is said of tuple stores and of rows stores alike, then of each
 
-pub sound-tuples-at : (p : Partitioning) (ws : List ℕ) → soundTuples p ws ≡ true → (i : ℕ) → i < p .count
-    → soundTuplePart p i (tuplePart p ws i) ≡ true
+-- room: a partition's words; part, store: whether partition i, the whole store is sound
+module _ (room : Partitioning → ℕ) (part : Partitioning → ℕ → List ℕ → Bool)
+    (store : Partitioning → List ℕ → Bool) where
+  -- each partition of a sound store is sound
+  abbrev pub SoundAt : Type 0
+  SoundAt = (p : Partitioning) (ws : List ℕ) → store p ws ≡ true → (i : ℕ) → i < p .count
+      → part p i (partitionAt (room p) ws i) ≡ true
+
+  -- a store is sound where each partition is
+  abbrev pub SoundBy : Type 0
+  SoundBy = (p : Partitioning) (ws : List ℕ)
+      → ((i : ℕ) → i < p .count → part p i (partitionAt (room p) ws i) ≡ true) → store p ws ≡ true
+
+  -- a changed partition that is sound keeps its store sound
+  abbrev pub SoundOn : Type 0
+  SoundOn = (p : Partitioning) (i : ℕ) (f : List ℕ → List ℕ) (ws : List ℕ) → length ws ≡ p .count * room p
+      → i < p .count → length (f (partitionAt (room p) ws i)) ≡ room p → store p ws ≡ true
+      → part p i (f (partitionAt (room p) ws i)) ≡ true → store p (onPartition (room p) i f ws) ≡ true
+
+  sound-on : SoundAt → SoundBy → SoundOn
+  sound-on at by p i f ws long h kept s g =
+      by p (onPartition (room p) i f ws)
+      (all-below _ (p .count)
+      (on-all (room p) (p .count) i f ws long h kept (part p) (below-all _ (p .count) (at p ws s)) g))
+
+pub sound-tuples-at : SoundAt tupleRoom soundTuplePart soundTuples
 unfolding soundTuples
-sound-tuples-at p ws h i l = all-below (λ i. soundTuplePart p i (tuplePart p ws i)) (p .count) h i l
+sound-tuples-at p ws h i l = all-below _ (p .count) h i l
 
-pub sound-rows-at : (p : Partitioning) (ws : List ℕ) → soundRows p ws ≡ true → (i : ℕ) → i < p .count
-    → soundRowPart p i (rowPart p ws i) ≡ true
+pub sound-rows-at : SoundAt rowRoom soundRowPart soundRows
 unfolding soundRows
-sound-rows-at p ws h i l = all-below (λ i. soundRowPart p i (rowPart p ws i)) (p .count) h i l
+sound-rows-at p ws h i l = all-below _ (p .count) h i l
 
-pub tuples-sound-by : (p : Partitioning) (ws : List ℕ)
-    → ((i : ℕ) → i < p .count → soundTuplePart p i (tuplePart p ws i) ≡ true) → soundTuples p ws ≡ true
+pub tuples-sound-by : SoundBy tupleRoom soundTuplePart soundTuples
 unfolding soundTuples
-tuples-sound-by p ws h = below-all (λ i. soundTuplePart p i (tuplePart p ws i)) (p .count) h
+tuples-sound-by p ws h = below-all _ (p .count) h
 
-pub rows-sound-by : (p : Partitioning) (ws : List ℕ)
-    → ((i : ℕ) → i < p .count → soundRowPart p i (rowPart p ws i) ≡ true) → soundRows p ws ≡ true
+pub rows-sound-by : SoundBy rowRoom soundRowPart soundRows
 unfolding soundRows
-rows-sound-by p ws h = below-all (λ i. soundRowPart p i (rowPart p ws i)) (p .count) h
+rows-sound-by p ws h = below-all _ (p .count) h
 
--- a changed partition that is sound keeps its store sound
-pub sound-tuples-on : (p : Partitioning) (i : ℕ) (f : List ℕ → List ℕ) (ws : List ℕ)
-    → length ws ≡ p .count * tupleRoom p → i < p .count → length (f (tuplePart p ws i)) ≡ tupleRoom p
-    → soundTuples p ws ≡ true → soundTuplePart p i (f (tuplePart p ws i)) ≡ true
-    → soundTuples p (onPartition (tupleRoom p) i f ws) ≡ true
-unfolding soundTuples
-sound-tuples-on p i f ws long h kept s g =
-    on-all (tupleRoom p) (p .count) i f ws long h kept (λ j part. soundTuplePart p j part) s g
+pub sound-tuples-on : SoundOn tupleRoom soundTuplePart soundTuples
+sound-tuples-on = sound-on tupleRoom soundTuplePart soundTuples sound-tuples-at tuples-sound-by
 
-pub sound-rows-on : (p : Partitioning) (i : ℕ) (f : List ℕ → List ℕ) (ws : List ℕ)
-    → length ws ≡ p .count * rowRoom p → i < p .count → length (f (rowPart p ws i)) ≡ rowRoom p
-    → soundRows p ws ≡ true → soundRowPart p i (f (rowPart p ws i)) ≡ true
-    → soundRows p (onPartition (rowRoom p) i f ws) ≡ true
-unfolding soundRows
-sound-rows-on p i f ws long h kept s g =
-    on-all (rowRoom p) (p .count) i f ws long h kept (λ j part. soundRowPart p j part) s g
+pub sound-rows-on : SoundOn rowRoom soundRowPart soundRows
+sound-rows-on = sound-on rowRoom soundRowPart soundRows sound-rows-at rows-sound-by
 
 -- ---- every stored record is legal and at home, and stands in the partition it belongs to
 
-pub tuples-at-home : (p : Partitioning) (i : ℕ) (part : List ℕ) → soundTuplePart p i part ≡ true
-    → all (tupleAtHome p i) (tuplesIn part) ≡ true
-unfolding soundTuplePart tuplesIn
-tuples-at-home p i part h =
-    all-map (tupleAtHome p i) tupleOf (recordsIn tupleWidth part)
-    ∙ sound-records tupleWidth (p .tuples) (λ ws. tupleAtHome p i (tupleOf ws)) part h
+-- the values of a sound part's records are legal, where that is what the part is tested for
+values-legal : {A : Type 0} (kind : Kind A) (capacity : ℕ) (ok : A → Bool) (part : List ℕ)
+    → soundPart (kind .width) capacity (λ ws. ok (kind .value ws)) part ≡ true → all ok (kind .held part) ≡ true
+values-legal kind capacity ok part h =
+    rw (kind .held-is part) (all-map ok (kind .value) (recordsIn (kind .width) part)
+    ∙ sound-records (kind .width) capacity (λ ws. ok (kind .value ws)) part h)
 
-pub rows-at-home : (p : Partitioning) (i : ℕ) (part : List ℕ) → soundRowPart p i part ≡ true
-    → all (rowAtHome p i) (rowsIn part) ≡ true
-unfolding soundRowPart rowsIn
-rows-at-home p i part h =
-    all-map (rowAtHome p i) rowOf (recordsIn rowWidth part)
-    ∙ sound-records rowWidth (p .rows) (λ ws. rowAtHome p i (rowOf ws)) part h
+-- the records of a sound partition i pass the test that belongs to i
+abbrev pub AtHome : {A : Type 0} → (Partitioning → ℕ → List ℕ → Bool) → (Partitioning → ℕ → A → Bool)
+    → (List ℕ → List A) → Type 0
+AtHome part ok held = (p : Partitioning) (i : ℕ) (ws : List ℕ) → part p i ws ≡ true → all (ok p i) (held ws) ≡ true
+
+pub tuples-at-home : AtHome soundTuplePart tupleAtHome tuplesIn
+unfolding soundTuplePart
+tuples-at-home p i part h = values-legal tuples (p .tuples) (tupleAtHome p i) part h
+
+pub rows-at-home : AtHome soundRowPart rowAtHome rowsIn
+unfolding soundRowPart
+rows-at-home p i part h = values-legal rows (p .rows) (rowAtHome p i) part h
 
 -- each tuple stored is legal
 pub stored-legal : (p : Partitioning) (ws : List ℕ) → soundTuples p ws ≡ true
@@ -132,9 +148,9 @@ stored-legal p ws s =
     (λ t e. and-left (legalTuple t) (eqb (home p (to t)) i) e)
     (tuples-at-home p i (tuplePart p ws i) (sound-tuples-at p ws s i h)))
 
--- lists whose members have a home each: those at home i of all of them are those of list i
-module _ {A : Type 0} (at : A → ℕ) (n : ℕ) (parts : ℕ → List A)
-    (homes : (j : ℕ) → j < n → all (λ x. eqb (at x) j) (parts j) ≡ true) where
+-- lists whose members are legal and have a home each: those at home i of all of them are those of list i
+module _ {A : Type 0} (legal : A → Bool) (at : A → ℕ) (n : ℕ) (parts : ℕ → List A)
+    (homes : (j : ℕ) → j < n → all (λ x. legal x && eqb (at x) j) (parts j) ≡ true) where
   none-elsewhere : (i j : ℕ) → (xs : List A) → (j ≡ i → ⊥) → all (λ x. eqb (at x) j) xs ≡ true
       → keep (λ x. eqb (at x) i) xs ≡ []
   none-elsewhere i j [] ne h = refl
@@ -143,66 +159,77 @@ module _ {A : Type 0} (at : A → ℕ) (n : ℕ) (parts : ℕ → List A)
       let rest = and-right (eqb (at x) j) (all (λ x. eqb (at x) j) xs) h in
       rw (ne-eqb (at x) i (λ e. ne (sym (eqb-true (at x) j here) ∙ e))) (none-elsewhere i j xs ne rest)
 
-  pub gathered-at : (i : ℕ) → i < n → keep (λ x. eqb (at x) i) (gather parts (below n)) ≡ parts i
+  placed : (j : ℕ) → j < n → all (λ x. eqb (at x) j) (parts j) ≡ true
+  placed j l =
+      all-imply (λ x. legal x && eqb (at x) j) (λ x. eqb (at x) j) (parts j)
+      (λ x e. and-right (legal x) (eqb (at x) j) e) (homes j l)
+
+  gathered-at : (i : ℕ) → i < n → keep (λ x. eqb (at x) i) (gather parts (below n)) ≡ parts i
   gathered-at i h =
       keep-gather (λ x. eqb (at x) i) parts (below n)
-      ∙ gather-one (λ j. keep (λ x. eqb (at x) i) (parts j)) n i h (λ j l ne. none-elsewhere i j (parts j) ne (homes j l))
-      ∙ keep-all (λ x. eqb (at x) i) (parts i) (homes i h)
+      ∙ gather-one (λ j. keep (λ x. eqb (at x) i) (parts j)) n i h
+      (λ j l ne. none-elsewhere i j (parts j) ne (placed j l))
+      ∙ keep-all (λ x. eqb (at x) i) (parts i) (placed i h)
 
-pub tuples-stored-at : (p : Partitioning) (ws : List ℕ) → soundTuples p ws ≡ true → (i : ℕ) → i < p .count
-    → tuplesAt p i (storedTuples p ws) ≡ tuplesIn (tuplePart p ws i)
+-- what a sound store holds that belongs to partition i is what partition i holds
+abbrev pub StoredAt : {A : Type 0} → (Partitioning → ℕ) → (List ℕ → List A) → (Partitioning → List ℕ → Bool)
+    → (Partitioning → List ℕ → List A) → (Partitioning → ℕ → List A → List A) → Type 0
+StoredAt room held store stored among = (p : Partitioning) (ws : List ℕ) → store p ws ≡ true → (i : ℕ) → i < p .count
+    → among p i (stored p ws) ≡ held (partitionAt (room p) ws i)
+
+stored-at : {A : Type 0} (legal : A → Bool) (last : A → ℕ) (room : Partitioning → ℕ)
+    (part : Partitioning → ℕ → List ℕ → Bool) (store : Partitioning → List ℕ → Bool) (held : List ℕ → List A)
+    → SoundAt room part store → AtHome part (λ p i x. legal x && eqb (home p (last x)) i) held
+    → StoredAt room held store (λ p ws. gather (λ i. held (partitionAt (room p) ws i)) (below (p .count)))
+    (λ p i. keep (λ x. eqb (home p (last x)) i))
+stored-at legal last room part store held at homes p ws s =
+    gathered-at legal (λ x. home p (last x)) (p .count) (λ i. held (partitionAt (room p) ws i))
+    (λ i l. homes p i (partitionAt (room p) ws i) (at p ws s i l))
+
+pub tuples-stored-at : StoredAt tupleRoom tuplesIn soundTuples storedTuples tuplesAt
 unfolding tuplesAt storedTuples tupleAtHome
-tuples-stored-at p ws s i h =
-    gathered-at (λ (t : Tuple). home p (to t)) (p .count) (λ j. tuplesIn (tuplePart p ws j)) homes i h
-  where
-    homes : (j : ℕ) → j < p .count → all (λ (t : Tuple). eqb (home p (to t)) j) (tuplesIn (tuplePart p ws j)) ≡ true
-    homes j l =
-        all-imply (tupleAtHome p j) (λ (t : Tuple). eqb (home p (to t)) j) (tuplesIn (tuplePart p ws j))
-        (λ t e. and-right (legalTuple t) (eqb (home p (to t)) j) e)
-        (tuples-at-home p j (tuplePart p ws j) (sound-tuples-at p ws s j l))
+tuples-stored-at = stored-at legalTuple to tupleRoom soundTuplePart soundTuples tuplesIn sound-tuples-at tuples-at-home
 
-pub rows-stored-at : (p : Partitioning) (ws : List ℕ) → soundRows p ws ≡ true → (i : ℕ) → i < p .count
-    → rowsAt p i (storedRows p ws) ≡ rowsIn (rowPart p ws i)
+pub rows-stored-at : StoredAt rowRoom rowsIn soundRows storedRows rowsAt
 unfolding rowsAt storedRows rowAtHome
-rows-stored-at p ws s i h =
-    gathered-at (λ (r : Row). home p (rowTo r)) (p .count) (λ j. rowsIn (rowPart p ws j)) homes i h
-  where
-    homes : (j : ℕ) → j < p .count → all (λ (r : Row). eqb (home p (rowTo r)) j) (rowsIn (rowPart p ws j)) ≡ true
-    homes j l =
-        all-imply (rowAtHome p j) (λ (r : Row). eqb (home p (rowTo r)) j) (rowsIn (rowPart p ws j))
-        (λ r e. and-right (legalRow r) (eqb (home p (rowTo r)) j) e)
-        (rows-at-home p j (rowPart p ws j) (sound-rows-at p ws s j l))
+rows-stored-at = stored-at legalRow rowTo rowRoom soundRowPart soundRows rowsIn sound-rows-at rows-at-home
 
 -- ---- the empty store: all zeros, of the plan's length
 
 pub empty-part : (room n i : ℕ) → i < n → partitionAt room (replicate (n * room) 0) i ≡ replicate room 0
 empty-part room n i h = part-replicate (i * room) room (n * room) 0 (omega (arith, start-within i n room h))
 
-pub empty-tuples-sound : (p : Partitioning) → soundTuples p (replicate (p .count * tupleRoom p) 0) ≡ true
+-- each of its partitions is sound, and all that they hold is nothing
+empty-sound : (w capacity n : ℕ) (ok : ℕ → List ℕ → Bool) (i : ℕ) → i < n
+    → soundPart w capacity (ok i) (partitionAt (roomOf w capacity) (replicate (n * roomOf w capacity) 0) i) ≡ true
+empty-sound w capacity n ok i h = rw (empty-part (roomOf w capacity) n i h) (sound-empty w capacity (ok i))
+
+empty-stored : {A : Type 0} (kind : Kind A) (room n : ℕ)
+    → gather (λ i. kind .held (partitionAt room (replicate (n * room) 0) i)) (below n) ≡ []
+empty-stored kind room n =
+    gather-cong-below _ (λ i. []) n
+    (λ i h. ap (kind .held) (empty-part room n i h) ∙ values-empty kind room)
+    ∙ gather-nil (λ i. []) (below n) (λ i. refl)
+
+-- what f makes of the empty store
+abbrev pub OfEmpty : {B : Type 0} → (Partitioning → ℕ) → (Partitioning → List ℕ → B) → B → Type 0
+OfEmpty room f b = (p : Partitioning) → f p (replicate (p .count * room p) 0) ≡ b
+
+pub empty-tuples-sound : OfEmpty tupleRoom soundTuples true
 unfolding soundTuplePart
-empty-tuples-sound p =
-    tuples-sound-by p _
-    (λ i h. rw (empty-part (tupleRoom p) (p .count) i h) (sound-empty tupleWidth (p .tuples) (λ ws. tupleAtHome p i (tupleOf ws))))
+empty-tuples-sound p = tuples-sound-by p _ (empty-sound _ _ (p .count) _)
 
-pub empty-rows-sound : (p : Partitioning) → soundRows p (replicate (p .count * rowRoom p) 0) ≡ true
+pub empty-rows-sound : OfEmpty rowRoom soundRows true
 unfolding soundRowPart
-empty-rows-sound p =
-    rows-sound-by p _
-    (λ i h. rw (empty-part (rowRoom p) (p .count) i h) (sound-empty rowWidth (p .rows) (λ ws. rowAtHome p i (rowOf ws))))
+empty-rows-sound p = rows-sound-by p _ (empty-sound _ _ (p .count) _)
 
-pub empty-tuples-stored : (p : Partitioning) → storedTuples p (replicate (p .count * tupleRoom p) 0) ≡ []
+pub empty-tuples-stored : OfEmpty tupleRoom storedTuples []
 unfolding storedTuples
-empty-tuples-stored p =
-    gather-cong-below _ (λ i. []) (p .count)
-    (λ i h. ap tuplesIn (empty-part (tupleRoom p) (p .count) i h) ∙ tuples-empty (tupleRoom p))
-    ∙ gather-nil (λ i. []) (below (p .count)) (λ i. refl)
+empty-tuples-stored p = empty-stored tuples (tupleRoom p) (p .count)
 
-pub empty-rows-stored : (p : Partitioning) → storedRows p (replicate (p .count * rowRoom p) 0) ≡ []
+pub empty-rows-stored : OfEmpty rowRoom storedRows []
 unfolding storedRows
-empty-rows-stored p =
-    gather-cong-below _ (λ i. []) (p .count)
-    (λ i h. ap rowsIn (empty-part (rowRoom p) (p .count) i h) ∙ rows-empty (rowRoom p))
-    ∙ gather-nil (λ i. []) (below (p .count)) (λ i. refl)
+empty-rows-stored p = empty-stored rows (rowRoom p) (p .count)
 
 -- ---- one record more: partition i gains x, the others stay as they are
 

@@ -1,8 +1,7 @@
 -- `store::fits_rows` meets its contract: a legal plan gives that many words.
 -- Assumes nothing.
-use native.Mathlib.Omega.{arith}
-use Rattle.plan.proofs.Homes.{legal-plan, plan-legal-test}
-use Rattle.store.proofs.StoreLoops.{length-fits}
+use Rattle.plan.proofs.Homes.{plan-legal-test}
+use Rattle.store.proofs.StoreLoops.{rows-fit}
 use Rattle.store.specs.Store.{fitsRows}
 use Rattle.store.proofs.fits_rows.Statement.{statement}
 use Rattle.store.proofs.fits_rows.Tie as tie
@@ -11,10 +10,7 @@ row-room-requires : tie.Need-row-room-requires
 row-room-requires c κs = c .pre
 
 mul-result : tie.Need-mul-result
-mul-result c =
-    let p = c .before .args .p in
-    let l = legal-plan p (c .before .pre) in
-    length-fits (p .count) (c .row-room .result) (l .most) (omega (arith, c .row-room .ensures, l .rows-most))
+mul-result c = rw (c .row-room .ensures) (rows-fit (c .before .args .p) (c .before .pre))
 
 returns : tie.Need-returns
 unfolding fitsRows

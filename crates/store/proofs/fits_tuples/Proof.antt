@@ -1,8 +1,7 @@
 -- `store::fits_tuples` meets its contract: a legal plan gives that many words.
 -- Assumes nothing.
-use native.Mathlib.Omega.{arith}
-use Rattle.plan.proofs.Homes.{legal-plan, plan-legal-test}
-use Rattle.store.proofs.StoreLoops.{length-fits}
+use Rattle.plan.proofs.Homes.{plan-legal-test}
+use Rattle.store.proofs.StoreLoops.{tuples-fit}
 use Rattle.store.specs.Store.{fitsTuples}
 use Rattle.store.proofs.fits_tuples.Statement.{statement}
 use Rattle.store.proofs.fits_tuples.Tie as tie
@@ -11,10 +10,7 @@ tuple-room-requires : tie.Need-tuple-room-requires
 tuple-room-requires c κs = c .pre
 
 mul-result : tie.Need-mul-result
-mul-result c =
-    let p = c .before .args .p in
-    let l = legal-plan p (c .before .pre) in
-    length-fits (p .count) (c .tuple-room .result) (l .most) (omega (arith, c .tuple-room .ensures, l .tuples-most))
+mul-result c = rw (c .tuple-room .ensures) (tuples-fit (c .before .args .p) (c .before .pre))
 
 returns : tie.Need-returns
 unfolding fitsTuples
