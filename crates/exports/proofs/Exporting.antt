@@ -17,11 +17,12 @@ use Rattle.rows.specs.declared.Side.{Side}
 use Rattle.checks.specs.Stores.{Stores}
 use Rattle.checks.specs.declared.Answer.{Answer}
 use Rattle.join.specs.Opening.{Opened}
+use Rattle.join.specs.Changes.{Changed}
 use Rattle.join.specs.Sweeps.{Swept}
 use Rattle.join.specs.Repartitioning.{Repartitioned}
+use Rattle.join.specs.declared.Kind.{Kind}
 use Rattle.exports.specs.Exports.{planHead, planWords, answerWords, planIn, wordsOf, lengthsAre}
-use Rattle.exports.specs.Exports.{Changed, Exported, ChangeExported}
-use Rattle.exports.specs.declared.Kind.{Kind}
+use Rattle.exports.specs.Exports.{Exported, ChangeExported}
 use Rattle.exports.proofs.Words.{plan-put-back}
 
 -- ---- the lengths: of a plan, of an answer, and of both
@@ -84,11 +85,7 @@ pub changed-said : (k : Kind) (p q : Partitioning) (side : Side) (t : Tuple) (s 
     → Changed k p side t s s′ a → Changed k q side t s s′ a
 changed-said k p q side t s s′ a e d = subst (λ v. Changed k v side t s s′ a) e d
 
--- a change of an equal kind, side and tuple
-pub changed-as : (k l : Kind) (p : Partitioning) (side : Side) (t : Tuple) (s s′ : Stores) (a : Answer) → k ≡ l
-    → Changed l p side t s s′ a → Changed k p side t s s′ a
-changed-as k l p side t s s′ a e h = subst (λ v. Changed v p side t s s′ a) (sym e) h
-
+-- a change of an equal side and tuple
 pub change-said : (k : Kind) (plan : List ℕ) (x y : Side) (t u : Tuple)
     (outer inner rows answer outer′ inner′ rows′ answer′ : List ℕ) (n : ℕ) → x ≡ y → t ≡ u
     → ChangeExported k plan x t outer inner rows answer outer′ inner′ rows′ answer′ n

@@ -13,14 +13,13 @@ use Rattle.plan.specs.Plan.{mostPartitions}
 use Rattle.plan.specs.declared.Partitioning.{Partitioning}
 use Rattle.rows.specs.declared.Side.{Side}
 use Rattle.rows.specs.declared.Side.the-variants.{Outer, Inner}
-use Rattle.checks.specs.Stores.{Stores, stores}
+use Rattle.checks.specs.Stores.{stores}
 use Rattle.checks.specs.declared.Answer.{Answer}
 use Rattle.join.specs.Opening.{Opened}
-use Rattle.join.specs.Changes.{Inserted, Deleted}
+use Rattle.join.specs.Changes.{Changed}
 use Rattle.join.specs.Sweeps.{Swept}
 use Rattle.join.specs.Repartitioning.{Repartitioned}
-use Rattle.exports.specs.declared.Kind.{Kind}
-use Rattle.exports.specs.declared.Kind.the-variants.{Insert, Delete}
+use Rattle.join.specs.declared.Kind.{Kind}
 
 -- the words of a plan, 67: before its last minutes, and with them
 abbrev pub planHead : ℕ
@@ -53,11 +52,6 @@ wordsOf a = a .number ∷ (a .changed ∷ (a .examined ∷ []))
 -- a side: 1 is drawings (outer), every other word spots (inner)
 abbrev pub sideOf : ℕ → Side
 sideOf n = pick (eqb n 1) Outer Inner
-
--- what the join's call of a change promises
-abbrev pub Changed : Kind → Partitioning → Side → Tuple → Stores → Stores → Answer → Type 0
-Changed Insert p side t s s′ a = Inserted p side t s s′ a
-Changed Delete p side t s s′ a = Deleted p side t s s′ a
 
 -- the lengths of the plan and of the answer are right
 abbrev pub lengthsAre : List ℕ → List ℕ → Bool

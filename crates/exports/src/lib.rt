@@ -12,13 +12,14 @@ ghost use lib.ListN.{length, take, drop};
 ghost use Rattle.interval.specs.Tuple.{tuple};
 ghost use Rattle.plan.specs.Plan.{mostPartitions, numbers};
 ghost use Rattle.checks.specs.Stores.{stores};
+ghost use Rattle.join.specs.declared.Kind.the-variants.{Insert, Delete};
 ghost use Rattle.exports.specs.Exports.{planHead, planWords, answerWords, minutes, planIn, wordsOf, sideOf};
-ghost use Rattle.exports.specs.Exports.{Changed, OpenExported, ChangeExported, SweepExported, CutsExported};
-ghost use Rattle.exports.specs.declared.Kind.the-variants.{Insert, Delete};
+ghost use Rattle.exports.specs.Exports.{OpenExported, ChangeExported, SweepExported, CutsExported};
 use interval::time::Chronon;
 use interval::time::Interval;
 use interval::tuple::Tuple;
 use join::Answer;
+use join::Kind;
 use plan::PLACES;
 use plan::Partitioning;
 use rows::Side;
@@ -30,12 +31,6 @@ const PLAN_WORDS: usize = PLAN_HEAD + PLACES;
 
 // The words of an answer.
 const ANSWER_WORDS: usize = 3;
-
-// What a change does with its tuple: puts it in, or takes it out.
-enum Kind {
-    Insert,
-    Delete,
-}
 
 // A plan's last minutes, from a place of a run of words on.
 fn lasts_in(words: &[u64], from: usize) -> [Chronon; PLACES]
@@ -121,26 +116,6 @@ pub extern "C" fn ruthgarwy_open(
     tell(a, answer)
 }
 
-// The join's call of a change.
-fn call(
-    kind: Kind,
-    p: Partitioning,
-    side: Side,
-    t: Tuple,
-    outer: &mut [u64],
-    inner: &mut [u64],
-    rows: &mut [u64],
-) -> Answer
-    ensures { λ r. ⌜ Changed kind p side t
-        (stores (now (outer .entry)) (now (inner .entry)) (now (rows .entry)))
-        (stores (now (outer .exit)) (now (inner .exit)) (now (rows .exit))) r ⌝ }
-{
-    match kind {
-        Kind::Insert => join::insert(p, side, t, outer, inner, rows),
-        Kind::Delete => join::delete(p, side, t, outer, inner, rows),
-    }
-}
-
 // A change of either kind.
 fn change(
     kind: Kind,
@@ -162,7 +137,7 @@ fn change(
     if answer.len() != ANSWER_WORDS {
         return 4;
     }
-    let a = call(kind, plan_in(plan), side, t, outer, inner, rows);
+    let a = join::change(kind, plan_in(plan), side, t, outer, inner, rows);
     tell(a, answer)
 }
 

@@ -2,7 +2,8 @@
 -- Assumes nothing.
 use mathlib.Core.Path.{_≡_, refl}
 use Rattle.checks.specs.Stores.{stores}
-use Rattle.exports.specs.Exports.{planIn, Changed, lengthsAre}
+use Rattle.join.specs.Changes.{Changed}
+use Rattle.exports.specs.Exports.{planIn, lengthsAre}
 use Rattle.exports.proofs.Exporting.{changed-said}
 use Rattle.exports.proofs.Exporting.{plan-wrong, answer-wrong, lengths-right, exported-refused, exported-called}
 use borrow.Author.Needs.{needs}
@@ -30,8 +31,8 @@ returns-2 c =
 plan-in-requires : tie.Need-plan-in-requires
 plan-in-requires c κs = search needs
 
-call-requires : tie.Need-call-requires
-call-requires c κs = search needs
+change-requires : tie.Need-change-requires
+change-requires c κs = search needs
 
 tell-requires : tie.Need-tell-requires
 tell-requires c κs = search needs
@@ -55,16 +56,16 @@ returns-3 c =
     let passed = plan .before in
     let a = passed .before .before .before .before .before .before .before .args in
     let s = stores (a .outer .now) (a .inner .now) (a .rows .now) in
-    let o = called .call .last .1 .1 .1 .1 in
+    let o = called .change .last .1 .1 .1 .1 in
     let s′ = stores (o .0) (o .1 .0) (o .1 .1 .0) in
     exported-called {Kept = s′ ≡ s}
     {Done = λ r. Changed (a .kind) (planIn (a .plan .now)) (a .side) (a .t) s s′ r}
     (lengthsAre (a .plan .now) (a .answer .now)) (a .answer .now) (c .before .before .tell .last .1 .0)
-    (c .before .before .tell .result) (called .call .result)
+    (c .before .before .tell .result) (called .change .result)
     (lengths-right (a .plan .now) (a .answer .now) (passed .before .if1 .left) (passed .if2 .left))
     (c .before .before .tell .ensures)
     (changed-said (a .kind) (plan .plan-in .result) (planIn (a .plan .now)) (a .side) (a .t) s s′
-    (called .call .result) (plan .plan-in .ensures) (called .call .ensures))
+    (called .change .result) (plan .plan-in .ensures) (called .change .ensures))
 
 pub change-spec : {M : Type 1} → statement M
 change-spec =
@@ -73,7 +74,7 @@ change-spec =
     returns
     returns-2
     plan-in-requires
-    call-requires
+    change-requires
     tell-requires
     same-length
     same-length-2

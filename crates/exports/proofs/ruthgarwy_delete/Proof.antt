@@ -1,6 +1,6 @@
 -- `exports::ruthgarwy_delete` meets its contract: a change of its kind, with the side and the tuple that the words say.
 -- Assumes nothing.
-use Rattle.exports.specs.declared.Kind.the-variants.{Delete}
+use Rattle.join.specs.declared.Kind.the-variants.{Delete}
 use Rattle.exports.proofs.Exporting.{change-said}
 use borrow.Author.Needs.{needs}
 use Rattle.exports.proofs.ruthgarwy_delete.Statement.{statement}
