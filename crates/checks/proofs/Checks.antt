@@ -8,19 +8,12 @@ use Prim.Native.Nat.{ℕ, suc}
 use lib.ListN.{length}
 use borrow.Author.Tests.{not-false}
 use Rattle.lists.specs.Choice.{refuseIf, orElse, firstOf}
-use Rattle.lists.proofs.Choice.{first-none, refuse-none, answer-last}
+use Rattle.lists.proofs.Choice.{first-none, refuse-none}
 use Rattle.plan.specs.Plan.{planNumber}
 use Rattle.plan.specs.declared.Partitioning.{Partitioning}
 use Rattle.store.specs.Store.{fitsTuples, fitsRows, soundTuples, soundRows}
 use Rattle.checks.specs.Stores.{Stores, fitsAll, sound, tuplesLength, rowsLength, tuplesUnsound, rowsUnsound}
 use Rattle.checks.specs.Stores.{lengthsNumber, openNumber, storeNumber}
-
--- the last check of a list, where its test fails and where it holds
-pub check-fails : (b : Bool) (n : ℕ) → b ≡ false → n ≡ firstOf (refuseIf (not b) n ∷ [])
-check-fails b n e = answer-last (rw e)
-
-pub check-holds : (b : Bool) (n : ℕ) → b ≡ true → 0 ≡ firstOf (refuseIf (not b) n ∷ [])
-check-holds b n e = answer-last (rw e)
 
 -- one check, by an answer to its test that holds, and by one that fails
 pub check-none : (n : ℕ) {answer b : Bool} → answer ≡ b → answer ≡ true → 0 ≡ refuseIf (not b) n
@@ -35,9 +28,6 @@ fails-first a b c e = rw e
 
 pub fails-second : (a b c : Bool) → a ≡ true → b ≡ false → (a && (b && c)) ≡ false
 fails-second a b c d e = rw (d, e)
-
-pub fails-third : (a b c : Bool) → a ≡ true → b ≡ true → c ≡ false → (a && (b && c)) ≡ false
-fails-third a b c d e f = rw (d, e, f)
 
 pub all-hold : (a b c : Bool) → a ≡ true → b ≡ true → c ≡ true → (a && (b && c)) ≡ true
 all-hold a b c d e f = rw (d, e, f)
@@ -112,7 +102,8 @@ pub record Fitting (p : Partitioning) (o i r : ℕ) : Type 0 where
   pub inner : fitsTuples p i ≡ true
   pub rows : fitsRows p r ≡ true
 
-pub fitting : (p : Partitioning) (outer inner rows : ℕ) → lengthsNumber p outer inner rows ≡ 0 → Fitting p outer inner rows
+pub fitting : (p : Partitioning) (outer inner rows : ℕ) → lengthsNumber p outer inner rows ≡ 0
+    → Fitting p outer inner rows
 unfolding lengthsNumber
 fitting p outer inner rows e =
     let a = first-none (planNumber p) _ e in

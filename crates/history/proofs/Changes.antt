@@ -1,16 +1,14 @@
 -- What insert and delete have in common: the partition of a legal tuple, the rows that it makes with the other side's
 -- store, and the rows partitions that share no chronon with it.
 -- Assumes nothing.
-use mathlib.Core.Bool.{true}
 use mathlib.Core.List.{List, _∷_, _++_}
 use mathlib.Core.Path.{_≡_, sym, _∙_, ap}
 use Prim.Native.Nat.{ℕ, _<_}
 use native.Mathlib.Omega.{arith}
 use lib.ListN.{length}
-use borrow.Author.Tests.{eq-eqb}
 use Rattle.lists.specs.Same.{Same}
 use Rattle.lists.proofs.Same.{same-refl, same-append}
-use Rattle.interval.specs.Tuple.{to, tupleNumber, legalTuple, sameRow}
+use Rattle.interval.specs.Tuple.{to, tupleNumber, sameRow}
 use Rattle.interval.specs.declared.tuple.Tuple.{Tuple}
 use Rattle.interval.proofs.Tuples.{legal-tuple, valid-ok}
 use Rattle.plan.specs.Plan.{planNumber, cutsOf, home}

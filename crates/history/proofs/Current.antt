@@ -5,14 +5,13 @@ use mathlib.Core.List.{List, [], _∷_}
 use mathlib.Core.Logic.{_⊎_, inl, inr, ⊎-elim}
 use mathlib.Core.Option.{some}
 use mathlib.Core.Path.{_≡_, refl, sym, _∙_, ap}
-use Prim.Native.Nat.{ℕ, _*_}
+use Prim.Native.Nat.{ℕ}
 use lib.Dec.{eqb}
 use lib.ListN.{length}
 use borrow.Author.Tests.{eqb-true, eqb-false}
-use Rattle.lists.proofs.Choice.{bool-cases, and-right}
-use Rattle.plan.specs.Plan.{planNumber, legalPlan}
+use Rattle.lists.proofs.Choice.{bool-cases}
+use Rattle.plan.specs.Plan.{planNumber}
 use Rattle.plan.specs.declared.Partitioning.{Partitioning}
-use Rattle.store.specs.Store.{tupleRoom, rowRoom, fitsTuples, fitsRows}
 use Rattle.rows.proofs.Joins.{join-empty-left}
 use Rattle.checks.specs.Stores.{Stores}
 use Rattle.checks.specs.declared.Answer.{Answer}

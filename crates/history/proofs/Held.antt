@@ -1,5 +1,5 @@
--- A store that holds exactly the members of a list, each as often: what that says, that it goes by the members alone, and
--- the empty store. Then both tuple stores and the rows store of their join, seen from one side.
+-- A store that holds exactly the members of a list, each as often: what that says, that it goes by the members alone,
+-- and the empty store. Then both tuple stores and the rows store of their join, seen from one side.
 -- Assumes nothing.
 use mathlib.Core.Bool.{true}
 use mathlib.Core.List.{List, [], _∷_, _++_}

@@ -1,5 +1,5 @@
--- Insert keeps the stores current: the own store holds one tuple more, the rows store what the tuple makes with the other
--- side more, and a rows partition that shares no chronon with the tuple keeps every word.
+-- Insert keeps the stores current: the own store holds one tuple more, the rows store what the tuple makes with the
+-- other side more, and a rows partition that shares no chronon with the tuple keeps every word.
 -- Assumes nothing.
 use mathlib.Core.Bool.{true, false}
 use mathlib.Core.List.{List, [], _∷_, _++_}

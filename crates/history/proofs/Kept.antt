@@ -1,4 +1,5 @@
--- What every call keeps: the stores hold what the machine holds, by the plan in force, which is legal and has 64 places.
+-- What every call keeps: the stores hold what the machine holds, by the plan in force, which is legal and has 64
+-- places.
 -- In order: that it gives `Current`; the same seen from one side; what is to be shown of a call; a refused call.
 -- Assumes nothing.
 use mathlib.Core.Bool.{true}

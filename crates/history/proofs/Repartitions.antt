@@ -1,5 +1,5 @@
--- Repartition keeps the stores current: it is accepted on an empty wall only, and empty stores hold nothing under the new
--- plan too, which is legal and has 64 places.
+-- Repartition keeps the stores current: it is accepted on an empty wall only, and empty stores hold nothing under the
+-- new plan too, which is legal and has 64 places.
 -- Assumes nothing.
 use mathlib.Core.Bool.{Bool, true, not, _&&_}
 use mathlib.Core.List.{List, [], _∷_, map-append}

@@ -1,4 +1,5 @@
--- The ten tabled cases of document 01, P1 to P10, computed from the definitions that the promises use: one table, one theorem.
+-- The ten tabled cases of document 01, P1 to P10, computed from the definitions that the promises use: one table, one
+-- theorem.
 -- A case is its number, the words that the definitions give, and the words that document 01 gives.
 -- Assumes nothing.
 use mathlib.Core.List.{List, [], _∷_, _++_, map}
@@ -89,7 +90,8 @@ pub record Case : Type 0 where
 abbrev case : ℕ → List ℕ → List ℕ → Case
 case n c s = record { number = n; computed = c; stated = s }
 
--- P1 the rows of the example, by lane. P2 and P3 overlaps. P4 unequal labels. P5 labels' numbers: A, Z, AA, AL, ZZZZZZZZ.
+-- P1 the rows of the example, by lane. P2 and P3 overlaps. P4 unequal labels. P5 labels' numbers: A, Z, AA, AL,
+-- ZZZZZZZZ.
 -- P6 a row twice. P7 the first drawing withdrawn. P8 an empty side. P9 pairs compared, with three lanes and with one.
 -- P10 the lanes of last minutes 34 and 35.
 abbrev pub table : List Case
@@ -115,5 +117,6 @@ table =
 
 -- all ten: what is computed is what is stated
 pub ten-cases : map (λ (c : Case). c .computed) table ≡ map (λ (c : Case). c .stated) table
-unfolding labelNumber rank overlap sameLabel sameInterval sameTuple rowsOfPair joinOf pairsOf joined meet storedTuples rowsAt home homeOf cutsOf startOf counted recordsIn tuplesIn appended
+unfolding labelNumber rank overlap sameLabel sameInterval sameTuple rowsOfPair joinOf pairsOf joined meet storedTuples
+    rowsAt home homeOf cutsOf startOf counted recordsIn tuplesIn appended
 ten-cases = refl

@@ -1,7 +1,7 @@
 -- Demand 3, stated. It is proved in proofs/Current.antt (`kept-current`).
 use mathlib.Core.Bool.{true, false}
-use mathlib.Core.List.{List, [], _∷_}
-use mathlib.Core.Option.{Option, none, some}
+use mathlib.Core.List.{List, _∷_}
+use mathlib.Core.Option.{Option, some}
 use mathlib.Core.Path.{_≡_}
 use Prim.Native.Nat.{ℕ, _<_}
 use lib.ListN.{length}
@@ -17,9 +17,9 @@ use Rattle.join.specs.Opening.{Opened}
 use Rattle.history.specs.Machine.{Call, insert, delete, sweep, repartition, Told, Machine, machineAfter}
 use Rattle.history.specs.Runs.{Run, fresh, then}
 
--- "stores 1 and 2 hold exactly the machine's drawings and spots, each in the lane it belongs to, and each lane of store 3
--- exactly the machine's rows that belong to it: each as often as the machine has it, in some order. All three stores are
--- sound. Lanes, lengths and soundness go by the machine's plan in force"
+-- "stores 1 and 2 hold exactly the machine's drawings and spots, each in the lane it belongs to, and each lane of store
+-- 3 exactly the machine's rows that belong to it: each as often as the machine has it, in some order. All three stores
+-- are sound. Lanes, lengths and soundness go by the machine's plan in force"
 pub record Current (m : Machine) (p : Partitioning) (s : Stores) : Type 0 where
   pub in-force : p ≡ m .plan
   pub long : fits p s ≡ true
@@ -32,8 +32,8 @@ pub record Current (m : Machine) (p : Partitioning) (s : Stores) : Type 0 where
 abbrev pub Untouched : Partitioning → Tuple → List ℕ → List ℕ → Type 0
 Untouched p t ws ws′ = (i : ℕ) → i < p .count → touches p i t ≡ false → rowPart p ws′ i ≡ rowPart p ws i
 
--- what is owed of one call of a list: of an accepted insert or delete, that frame, by the cuts in force at that call; of a
--- repartition, accepted or not, that "the plan that a recut returns equals it, after that recut, in every part"
+-- what is owed of one call of a list: of an accepted insert or delete, that frame, by the cuts in force at that call;
+-- of a repartition, accepted or not, that "the plan that a recut returns equals it, after that recut, in every part"
 abbrev pub Owed : Partitioning → Stores → Call → ℕ → Partitioning → Stores → Option Machine → Type 0
 Owed p s (insert side t) number p′ s′ after = number ≡ 0 → Untouched p t (s .rows) (s′ .rows)
 Owed p s (delete side t) number p′ s′ after = number ≡ 0 → Untouched p t (s .rows) (s′ .rows)

@@ -1,6 +1,6 @@
--- The plain machine of demand 3: "told which call is made, on which side, with which tuple or new last minutes, and whether
--- it answered 0; it sees no store and no cache. It keeps two multisets, drawings and spots, .. and the plan in force".
-use mathlib.Core.Bool.{Bool}
+-- The plain machine of demand 3: "told which call is made, on which side, with which tuple or new last minutes, and
+-- whether it answered 0; it sees no store and no cache. It keeps two multisets, drawings and spots, .. and the plan in
+-- force".
 use mathlib.Core.List.{List, [], _∷_}
 use mathlib.Core.Option.{Option, none, some}
 use Prim.Native.Nat.{ℕ}
@@ -49,8 +49,8 @@ takeOut Inner t m =
     (some (record { plan = m .plan; outer = m .outer; inner = without (sameTuple t) (m .inner) }))
     none
 
--- an accepted call; none: demand 3 has failed. "An accepted recut puts the last minutes handed in into the first n places of
--- the plan in force. A sweep changes nothing"
+-- an accepted call; none: demand 3 has failed. "An accepted recut puts the last minutes handed in into the first n
+-- places of the plan in force. A sweep changes nothing"
 abbrev pub accept : Call → Machine → Option Machine
 accept (insert side t) m = some (put side t m)
 accept (delete side t) m = takeOut side t m

@@ -1,5 +1,5 @@
--- Lists of calls as the calls' own promises have them: each gets the stores as the call before left them, and the plan that
--- the last repartition returned.
+-- Lists of calls as the calls' own promises have them: each gets the stores as the call before left them, and the plan
+-- that the last repartition returned.
 use mathlib.Core.List.{List, [], _∷_}
 use mathlib.Core.Path.{_≡_}
 use Prim.Native.Nat.{ℕ}

@@ -1,15 +1,15 @@
 -- Closed cases that compute, from the definitions that the promises cite: document 01's P2, P3 and P5, the ends of the
--- calendar, equal ends, nested and touching spans, the largest label and one more, each of checks 6 to 8, equality in all
--- words, and the order of a record's words.
+-- calendar, equal ends, nested and touching spans, the largest label and one more, each of checks 6 to 8, equality in
+-- all words, and the order of a record's words.
 -- Assumes nothing.
-use mathlib.Core.Bool.{Bool, true, false}
+use mathlib.Core.Bool.{true, false}
 use mathlib.Core.List.{List, [], _∷_}
 use mathlib.Core.Path.{_≡_, refl}
 use Prim.Native.Nat.{ℕ}
 use Rattle.lists.specs.Choice.{firstOf}
-use Rattle.interval.specs.Time.{calendarEnd, span, contains, overlap}
-use Rattle.interval.specs.Label.{labelEnd, rank, isLetter, isLabel, labelNumber, numberOrNone, labelCheck, lettersOf}
-use Rattle.interval.specs.Tuple.{tuple, row, itemCheck, validCheck, tupleNumber, legalTuple, rowNumber, legalRow}
+use Rattle.interval.specs.Time.{span, overlap}
+use Rattle.interval.specs.Label.{rank, isLetter, isLabel, labelNumber, numberOrNone, labelCheck, lettersOf}
+use Rattle.interval.specs.Tuple.{tuple, row, itemCheck, validCheck, tupleNumber, rowNumber, legalRow}
 use Rattle.interval.specs.Tuple.{sameInterval, sameTuple, sameRow, tupleWords, tupleOf, rowWords, rowOf}
 use Rattle.interval.specs.declared.time.Interval.{Interval}
 use Rattle.interval.specs.declared.tuple.Tuple.{Tuple}
@@ -49,7 +49,8 @@ overlaps-hold : Overlaps overlaps
 unfolding overlap overlaps Overlaps
 overlaps-hold = (refl, (refl, (refl, (refl, (refl, (refl, (refl, (refl, (refl, tt)))))))))
 
--- P5: A = 1, Z = 26, AA = 27, AL = 38, ZZZZZZZZ = 217,180,147,158; and the last with three letters and the first with four
+-- P5: A = 1, Z = 26, AA = 27, AL = 38, ZZZZZZZZ = 217,180,147,158; and the last with three letters and the first with
+-- four
 labels : List (List ℕ × ℕ)
 labels =
     (65 ∷ [], 1)

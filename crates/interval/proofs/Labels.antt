@@ -1,21 +1,21 @@
--- Labels and their numbers: each label's number is from 1 to labelEnd, the letters of a label's number are that label, and
--- the number of a number's letters is that number. So no two labels share a number.
+-- Labels and their numbers: each label's number is from 1 to labelEnd, the letters of a label's number are that label,
+-- and the number of a number's letters is that number. So no two labels share a number.
 -- In order: ranks of letters; the bounds of a number; letters of a number and back; the theorems (label-range,
 -- letters-of-label, label-of-letters, number-of-letters, label-unique).
 -- Assumes nothing.
-use mathlib.Core.Bool.{Bool, true, false, _&&_, _||_, false≢true}
+use mathlib.Core.Bool.{true, false, _&&_, _||_, false≢true}
 use mathlib.Core.List.{List, [], _∷_, _++_, append-nil}
-use mathlib.Core.Logic.{⊎-elim, inl, inr, _⊎_}
+use mathlib.Core.Logic.{⊎-elim, _⊎_}
 use mathlib.Core.Path.{_≡_, refl, sym, _∙_, ap, subst}
 use Prim.Native.Nat.{ℕ, zero, suc, _+_, _-_, _*_, _/_, _%_, _≤_, _<_}
 use native.Mathlib.Nat.{add-zero}
 use native.Mathlib.Omega.{arith}
 use lib.ListN.{length}
 use lib.Dec.{leb, ltb}
-use borrow.Author.Tests.{ltb-true, lt-ltb, le-ltb, le-leb, leb-true}
+use borrow.Author.Tests.{lt-ltb, le-ltb, le-leb, leb-true}
 use Rattle.lists.specs.Choice.{pick}
 use Rattle.lists.specs.Members.{all}
-use Rattle.lists.proofs.Choice.{bool-cases, and-left, and-right, and-both, or-none, pick-true, pick-false}
+use Rattle.lists.proofs.Choice.{bool-cases, and-left, and-right, and-both, or-none, pick-false}
 use Rattle.interval.specs.Label.{labelEnd, labelLength, rank, isLetter, isLabel, numberFrom, labelNumber}
 use Rattle.interval.specs.Label.{lettersBefore, lettersOf}
 
@@ -93,7 +93,8 @@ number-above n (b ∷ bs) h =
 -- ---- letters of a number and back
 
 -- the number of the letters of n, put in front of others, is n's with those others after it
-letters-number : (k n : ℕ) (after : List ℕ) → n ≤ largest k → numberFrom 0 (lettersBefore k n after) ≡ numberFrom n after
+letters-number : (k n : ℕ) (after : List ℕ) → n ≤ largest k
+    → numberFrom 0 (lettersBefore k n after) ≡ numberFrom n after
 letters-number zero zero after h = refl
 letters-number zero (suc n) after h = absurd (omega arith)
 letters-number (suc k) zero after h = refl

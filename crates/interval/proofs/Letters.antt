@@ -1,8 +1,9 @@
--- The loops of `interval::label`: reading a label's number letter by letter, and writing a number's letters from the last.
+-- The loops of `interval::label`: reading a label's number letter by letter, and writing a number's letters from the
+-- last.
 -- In order: numbers of other bytes; `Read`, the invariant of `label_number`, with its laws; `Written`, that of
 -- `letters_of`, with its laws.
 -- Assumes nothing.
-use mathlib.Core.Bool.{Bool, true, false, not, _&&_, _||_, and-false}
+use mathlib.Core.Bool.{true, false, _&&_, _||_, and-false}
 use mathlib.Core.List.{List, [], _∷_, _++_}
 use mathlib.Core.Logic.{_⊎_, inl, inr, ⊎-elim}
 use mathlib.Core.Path.{_≡_, refl, sym, _∙_, ap, subst}
@@ -10,13 +11,13 @@ use Prim.Native.Nat.{ℕ, zero, suc, _+_, _-_, _*_, _/_, _%_, _≤_, _<_}
 use native.Mathlib.Nat.{le-trans}
 use native.Mathlib.Numerals.{add-one}
 use native.Mathlib.Omega.{arith}
-use lib.ListN.{length, getD, take, drop, drop-of-length-le, replicate, length-append, length-replicate}
+use lib.ListN.{length, getD, take, drop, drop-of-length-le, replicate}
 use lib.Seq.{drop-cons, take-append-add}
 use lib.Dec.{leb, ltb}
 use borrow.Author.Tests.{lt-ltb, le-ltb, le-leb, lt-leb}
 use Rattle.lists.specs.Choice.{pick}
 use Rattle.lists.specs.Members.{all}
-use Rattle.lists.proofs.Choice.{bool-cases, and-both, or-left, or-right, pick-true, pick-false}
+use Rattle.lists.proofs.Choice.{bool-cases, and-both, or-right, pick-true, pick-false}
 use Rattle.lists.proofs.Members.{all-end, all-next, all-stop}
 use Rattle.interval.specs.Label.{labelEnd, labelLength, rank, isLetter, isLabel, numberFrom, labelNumber}
 use Rattle.interval.specs.Label.{numberOrNone, lettersBefore, lettersOf, LabelRead, LettersWritten}
@@ -62,7 +63,8 @@ pub read-more : (bs : List ℕ) (i n : ℕ) → i < length bs → 0 < rank (getD
 unfolding isLetter
 read-more bs i n h g r = record {
   within = omega arith;
-  small = subst (λ (m : ℕ). 26 * n + rank (getD bs i 0) ≤ largest m) (sym (add-one i)) (number-step i n (getD bs i 0) (r .small));
+  small = subst (λ (m : ℕ). 26 * n + rank (getD bs i 0) ≤ largest m) (sym (add-one i))
+      (number-step i n (getD bs i 0) (r .small));
   letters = r .letters ∙ all-next isLetter bs i 0 h (lt-ltb 0 (rank (getD bs i 0)) g);
   number = r .number ∙ rw (drop-cons bs i 0 h, add-one i);
 }
@@ -76,7 +78,8 @@ read-stop bs i n h g r =
     (and-false (leb 1 (length bs))))
 
 -- all letters
-pub read-all : (bs : List ℕ) (i n : ℕ) → 1 ≤ length bs → length bs ≤ 8 → length bs ≤ i → Read bs i n → n ≡ numberOrNone bs
+pub read-all : (bs : List ℕ) (i n : ℕ) → 1 ≤ length bs → length bs ≤ 8 → length bs ≤ i → Read bs i n
+    → n ≡ numberOrNone bs
 unfolding isLabel numberOrNone labelNumber
 read-all bs i n lo hi h r =
     (sym (ap (λ (cs : List ℕ). numberFrom n cs) (drop-of-length-le bs h)) ∙ sym (r .number))
@@ -88,7 +91,8 @@ read-all bs i n lo hi h r =
 
 -- ---- the field: 0 stands for no label, and is no label's number
 
-label-or-none : (bs : List ℕ) → ((isLabel bs ≡ true) × (1 ≤ numberOrNone bs)) ⊎ ((isLabel bs ≡ false) × (numberOrNone bs ≡ 0))
+label-or-none : (bs : List ℕ) → ((isLabel bs ≡ true) × (1 ≤ numberOrNone bs)) ⊎
+    ((isLabel bs ≡ false) × (numberOrNone bs ≡ 0))
 label-or-none bs = ⊎-elim (λ e. inl (e, is e)) (λ e. inr (e, sym (none-of bs e))) (bool-cases (isLabel bs))
   where
     is : isLabel bs ≡ true → 1 ≤ numberOrNone bs

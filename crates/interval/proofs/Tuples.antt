@@ -124,8 +124,10 @@ pub valid-ok : (v : Interval) → validCheck v ≡ 0 → (v .first .0 ≤ v .las
 unfolding validCheck
 valid-ok v e =
     let h = refuse-none (ltb (v .last .0) (v .first .0) || ltb calendarEnd (v .last .0)) 7 e in (
-      ltb-false (v .last .0) (v .first .0) (or-neither-left (ltb (v .last .0) (v .first .0)) (ltb calendarEnd (v .last .0)) h),
-      ltb-false calendarEnd (v .last .0) (or-neither-right (ltb (v .last .0) (v .first .0)) (ltb calendarEnd (v .last .0)) h),
+      ltb-false (v .last .0) (v .first .0)
+          (or-neither-left (ltb (v .last .0) (v .first .0)) (ltb calendarEnd (v .last .0)) h),
+      ltb-false calendarEnd (v .last .0) (or-neither-right (ltb (v .last .0) (v .first .0))
+          (ltb calendarEnd (v .last .0)) h),
     )
 
 pub ok-valid : (v : Interval) → v .first .0 ≤ v .last .0 → v .last .0 ≤ calendarEnd → validCheck v ≡ 0

@@ -1,5 +1,6 @@
 -- Labels, their numbers and their letters.
--- That each label has a number of its own, and each number from 1 to the end its label, is proved in proofs/Labels.antt.
+-- That each label has a number of its own, and each number from 1 to the end its label, is proved in
+-- proofs/Labels.antt.
 use mathlib.Core.Bool.{Bool, not, _&&_, _||_}
 use mathlib.Core.List.{List, [], _∷_, _++_}
 use mathlib.Core.Path.{_≡_}
@@ -48,8 +49,8 @@ numberOrNone bs = pick (isLabel bs) (labelNumber bs) 0
 unfoldable pub labelCheck : ℕ → ℕ
 labelCheck n = refuseIf (ltb n 1 || ltb labelEnd n) 6
 
--- the letters of n, at most k of them, in front of those in hand: the last has the rank, from 1 to 26, that 26 leaves of
--- n, and those before it are the letters of what n then has left
+-- the letters of n, at most k of them, in front of those in hand: the last has the rank, from 1 to 26, that 26 leaves
+-- of n, and those before it are the letters of what n then has left
 abbrev pub lettersBefore : ℕ → ℕ → List ℕ → List ℕ
 lettersBefore zero n after = after
 lettersBefore (suc k) zero after = after

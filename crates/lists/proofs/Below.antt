@@ -15,7 +15,7 @@ use borrow.Author.Tests.{eqb-true, eqb-false, eq-eqb, ne-eqb, le-leb, lt-leb}
 use Rattle.lists.specs.Choice.{pick}
 use Rattle.lists.specs.Members.{all, any, keep, total, gather, placeOf, upFrom, below}
 use Rattle.lists.proofs.Choice.{bool-cases, or-left, or-right}
-use Rattle.lists.proofs.Members.{all-map, all-getD, getD-all, keep-append}
+use Rattle.lists.proofs.Members.{all-getD, getD-all, keep-append}
 use Rattle.lists.proofs.Tally.{total-add, total-map, total-keep, place-found, place-is}
 use Rattle.lists.proofs.Gather.{gather-map, gather-pick}
 
@@ -50,9 +50,6 @@ up-split i (suc m) n =
     let e : suc m + n ≡ suc (m + n) = omega arith in
     let r : i + suc m ≡ suc i + m = omega arith in
     rw (e, r, up-split (suc i) m n)
-
-pub below-snoc : (n : ℕ) → below (n + 1) ≡ below n ++ (n ∷ [])
-below-snoc n = rw zero-add at (up-split 0 n 1)
 
 module _ (p : ℕ → Bool) (n : ℕ) where
   -- every number below n passes: from it, and to it
@@ -101,10 +98,6 @@ gather-cong-below f g n h =
 pub total-cong-below : (f g : ℕ → ℕ) (n : ℕ) → ((i : ℕ) → i < n → f i ≡ g i) → total f (below n) ≡ total g (below n)
 total-cong-below f g n h =
     sym (total-map (λ k. k) f (below n)) ∙ ap (total (λ k. k)) (map-cong-below f g n h) ∙ total-map (λ k. k) g (below n)
-
-pub all-cong-below : (p q : ℕ → Bool) (n : ℕ) → ((i : ℕ) → i < n → p i ≡ q i) → all p (below n) ≡ all q (below n)
-all-cong-below p q n h =
-    sym (all-map (λ b. b) p (below n)) ∙ ap (all (λ b. b)) (map-cong-below p q n h) ∙ all-map (λ b. b) q (below n)
 
 -- the one number of them that is i
 keep-past : (i a n : ℕ) → i < a → keep (λ j. eqb j i) (upFrom a n) ≡ []

@@ -90,8 +90,8 @@ unfolding firstOf
 first-none zero ns e = (refl, e)
 first-none (suc n) ns e = absurd (omega arith)
 
--- for a function that goes down the checks: its answer r is this check's number m, where that is not 0; it is that of the
--- checks after it, where this one's is 0; and it is the last check's
+-- for a function that goes down the checks: its answer r is this check's number m, where that is not 0; it is that of
+-- the checks after it, where this one's is 0; and it is the last check's
 pub answer-here : {r m : ℕ} (ns : List ℕ) → r ≡ m → (r ≡ 0 → ⊥) → r ≡ firstOf (m ∷ ns)
 answer-here {r} {m} ns e h = e ∙ sym (first-here m ns (λ z. h (e ∙ z)))
 

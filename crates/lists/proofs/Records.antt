@@ -9,13 +9,13 @@ use Prim.Native.Nat.{ℕ, zero, suc, _+_, _-_, _*_, _≤_, _<_}
 use native.Mathlib.Nat.{zero-add, suc-add, add-comm, zero-mul, suc-mul}
 use native.Mathlib.Omega.{arith}
 use lib.Dec.{eqb}
-use lib.ListN.{length, take, drop, getD, set, replicate, length-set, length-replicate, getD-replicate}
-use lib.Seq.{take-at, drop-at, drop-drop, ext-getD, getD-set-same, getD-set-other}
+use lib.ListN.{length, take, drop, getD, set, length-set}
+use lib.Seq.{take-at, drop-drop, ext-getD, getD-set-same, getD-set-other}
 use borrow.Author.Tests.{eqb-true, eqb-false}
 use borrow.Rule.Slice.PartMut.{putMid}
 use Rattle.lists.specs.Words.{partAt, recordsOf, recordAt}
-use Rattle.lists.proofs.Parts.{start-within, length-part, getD-part, part-drop, part-take, part-put}
-use Rattle.lists.proofs.Parts.{part-put-before, part-put-apart, part-replicate}
+use Rattle.lists.proofs.Parts.{start-within, length-part, part-drop, part-take, part-put}
+use Rattle.lists.proofs.Parts.{part-put-before, part-put-apart}
 
 -- how many records there are
 pub length-records : (w n : ℕ) (ws : List ℕ) → length (recordsOf w n ws) ≡ n
@@ -26,9 +26,6 @@ length-records w (suc n) ws = ap suc (length-records w n (drop w ws))
 pub record-length : (w k : ℕ) (ws : List ℕ) → k * w + w ≤ length ws → length (recordAt w k ws) ≡ w
 record-length w k ws h = length-part (k * w) w ws h
 
-pub record-word : (w k j : ℕ) (ws : List ℕ) → j < w → getD (recordAt w k ws) j 0 ≡ getD ws (k * w + j) 0
-record-word w k j ws h = getD-part (k * w) w j ws 0 h
-
 -- each record
 record-after : (w k : ℕ) (ws : List ℕ) → recordAt w k (drop w ws) ≡ recordAt w (suc k) ws
 record-after w k ws = part-drop (k * w) w w ws ∙ rw (suc-mul, add-comm w)
@@ -38,10 +35,7 @@ record-at w zero k ws d h = absurd (omega arith)
 record-at w (suc n) zero ws d h = rw zero-mul
 record-at w (suc n) (suc k) ws d h = record-at w n k (drop w ws) d (omega arith) ∙ record-after w k ws
 
--- none; some and then others; one more
-pub records-zero : (w : ℕ) (ws : List ℕ) → recordsOf w 0 ws ≡ []
-records-zero w ws = refl
-
+-- some and then others; one more
 pub records-add : (w n m : ℕ) (ws : List ℕ)
     → recordsOf w (n + m) ws ≡ recordsOf w n ws ++ recordsOf w m (drop (n * w) ws)
 records-add w zero m ws = rw (zero-add, zero-mul)
@@ -61,10 +55,6 @@ records-cut w n k ws h =
 
 pub records-take-fewer : (w n k : ℕ) (ws : List ℕ) → k ≤ n → take k (recordsOf w n ws) ≡ recordsOf w k ws
 records-take-fewer w n k ws h = rw (records-cut w n k ws h) (take-at (recordsOf w k ws) _ k (length-records w k ws))
-
-pub records-drop : (w n k : ℕ) (ws : List ℕ) → k ≤ n
-    → drop k (recordsOf w n ws) ≡ recordsOf w (n - k) (drop (k * w) ws)
-records-drop w n k ws h = rw (records-cut w n k ws h) (drop-at (recordsOf w k ws) _ k (length-records w k ws))
 
 -- a list is the records where each of its members is
 records-are : (w n : ℕ) (ws : List ℕ) (rs : List (List ℕ)) → length rs ≡ n
@@ -117,10 +107,3 @@ records-append w n ws r h e =
     records-snoc w n (putMid (n * w) w ws r)
     ∙ ap₂ (λ (rs : List (List ℕ)) (s : List ℕ). rs ++ (s ∷ []))
     (records-past w n (n * w) w ws r (omega arith) (omega arith)) (part-put (n * w) w ws r h e)
-
--- records of zeros
-pub records-replicate : (w n m : ℕ) → n * w ≤ m → recordsOf w n (replicate m 0) ≡ replicate n (replicate w 0)
-records-replicate w n m h =
-    records-are w n (replicate m 0) (replicate n (replicate w 0)) (length-replicate n (replicate w 0)) λ k b.
-    part-replicate (k * w) w m 0 (omega (arith, start-within k n w b))
-    ∙ sym (getD-replicate n k (replicate w 0) [] b)

@@ -1,14 +1,14 @@
 -- Lists of words that are all 0.
 -- In order: a step of a loop that looks for a word that is not 0; 0 many times; lists joined; each word of such a list;
 -- the whole of it; a part of it.
-use mathlib.Core.Path.{_≡_, refl, sym, ap, ap₂, _∙_}
+use mathlib.Core.Path.{_≡_, refl, ap, ap₂, _∙_}
 use mathlib.Core.Bool.{Bool, true, false, _&&_}
 use mathlib.Core.List.{List, [], _∷_, _++_}
 use Prim.Native.Nat.{ℕ, zero, suc, _+_, _≤_, _<_}
 use native.Mathlib.Numerals.{add-one}
 use native.Mathlib.Omega.{arith}
 use lib.Dec.{eqb}
-use lib.ListN.{length, take, drop, getD, replicate, take-append-drop, drop-of-length-le}
+use lib.ListN.{length, drop, getD, replicate, drop-of-length-le}
 use lib.Seq.{drop-cons, getD-drop}
 use borrow.Author.Tests.{eqb-true, eq-eqb, ne-eqb}
 use Rattle.lists.specs.Words.{zeros}
@@ -65,9 +65,3 @@ zeros-are (w ∷ ws) h =
 -- a part
 pub zeros-drop : (i : ℕ) (ws : List ℕ) → zeros ws ≡ true → zeros (drop i ws) ≡ true
 zeros-drop i ws h = getD-zeros (drop i ws) (λ j b. getD-drop i ws j 0 ∙ zeros-getD ws h (i + j))
-
-pub zeros-take : (i : ℕ) (ws : List ℕ) → zeros ws ≡ true → zeros (take i ws) ≡ true
-zeros-take i ws h = both (zeros (take i ws)) (zeros (drop i ws)) joined .0
-  where
-    joined : (zeros (take i ws) && zeros (drop i ws)) ≡ true
-    joined = sym (zeros-append (take i ws) (drop i ws)) ∙ rw take-append-drop h

@@ -170,9 +170,11 @@ splice : {A : Type 0} (new old : List A) (i : ℕ) (d : A) → i < length new �
 splice [] old i d l m = absurd (omega arith)
 splice (x ∷ new) [] i d l m = absurd (omega arith)
 splice (x ∷ new) (y ∷ old) zero d l m = refl
-splice (x ∷ new) (y ∷ old) (suc i) d l m = simp suc-add (ap (λ r. x ∷ r) (splice new old i d (omega arith) (omega arith)))
+splice (x ∷ new) (y ∷ old) (suc i) d l m =
+    simp suc-add (ap (λ r. x ∷ r) (splice new old i d (omega arith) (omega arith)))
 
-pub spliced-step : (new old : List Chronon) (used i : ℕ) (lasts : List Chronon) → i < used → Spliced new old used i lasts
+pub spliced-step : (new old : List Chronon) (used i : ℕ) (lasts : List Chronon) → i < used
+    → Spliced new old used i lasts
     → Spliced new old used (i + 1) (set lasts i (getD new i (record { 0 = 0 })))
 spliced-step new old used i lasts l s = record {
   long = s .long;

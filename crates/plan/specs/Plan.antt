@@ -1,10 +1,9 @@
 -- The partitioning (document 01: plan): its cuts (last minutes), its own checks, and the partition (lane) of a chronon.
 -- Partitions are counted from 0 here; document 01's lane 1 is partition 0. The laws are in proofs/Homes.antt.
-use mathlib.Core.Bool.{Bool, true, false, not, _&&_, _||_}
+use mathlib.Core.Bool.{Bool, false, not, _&&_, _||_}
 use mathlib.Core.List.{List, [], _∷_, _++_, map}
-use mathlib.Core.Path.{_≡_}
 use Prim.Native.Nat.{ℕ, zero, suc, _+_}
-use lib.ListN.{length, getD, take, drop}
+use lib.ListN.{getD, take, drop}
 use lib.Dec.{leb, ltb, eqb}
 use Rattle.lists.specs.Choice.{pick, refuseIf, firstOf}
 use Rattle.interval.specs.Time.{calendarEnd}
@@ -63,8 +62,8 @@ unfoldable pub startOf : List ℕ → ℕ → ℕ
 startOf cs zero = 0
 startOf cs (suc i) = getD cs i 0 + 1
 
--- "Recut replaces the plan's last minutes, n and capacities kept"; "those beyond n are ignored, and recut keeps what the old
--- plan has there"
+-- "Recut replaces the plan's last minutes, n and capacities kept"; "those beyond n are ignored, and recut keeps what
+-- the old plan has there"
 unfoldable pub withCuts : Partitioning → List Chronon → Partitioning
 withCuts p new = record {
   count = p .count;

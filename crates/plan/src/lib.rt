@@ -18,10 +18,12 @@ pub const MOST_ROWS: u64 = 4_096;
 // The places that a plan has for last minutes.
 pub const PLACES: usize = MOST_PARTITIONS as usize;
 
-// A lane number of document 01, counted from 0. It is no Chronon: one handed over where the other belongs does not compile.
+// A lane number of document 01, counted from 0. It is no Chronon: one handed over where the other belongs does not
+// compile.
 pub struct PartitionIndex(pub u64);
 
-// A plan of document 01: the lane count, the last minute of each lane, the tuple capacity and the row capacity of a lane.
+// A plan of document 01: the lane count, the last minute of each lane, the tuple capacity and the row capacity of a
+// lane.
 pub struct Partitioning {
     pub count: u64,
     pub lasts: [Chronon; PLACES],

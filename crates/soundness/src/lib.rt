@@ -92,7 +92,8 @@ fn legal_between(number: u64, m: Chronon, first: Chronon, last: Chronon) -> bool
 // Whether record k of a partition is legal and its last chronon is from `first` to `last`.
 fn record_between(kind: Records, part: &[u64], k: usize, first: Chronon, last: Chronon) -> bool
     requires { ⌜ roomOf (widthOf kind) (k + 1) ≤ length (now part) ⌝ }
-    ensures { λ r. ⌜ r ≡ recordBetween kind (first .0) (last .0) (recordAt (widthOf kind) k (drop 1 (now (part .entry)))) ⌝ }
+    ensures { λ r. ⌜ r ≡ recordBetween kind (first .0) (last .0)
+        (recordAt (widthOf kind) k (drop 1 (now (part .entry)))) ⌝ }
 {
     match kind {
         Records::Tuples => {
@@ -114,7 +115,8 @@ fn record_between(kind: Records, part: &[u64], k: usize, first: Chronon, last: C
 // Whether each of the first n records of a partition is legal and between.
 fn records_between(kind: Records, part: &[u64], n: usize, first: Chronon, last: Chronon) -> bool
     requires { ⌜ roomOf (widthOf kind) n ≤ length (now part) ⌝ }
-    ensures { λ r. ⌜ r ≡ all (recordBetween kind (first .0) (last .0)) (recordsOf (widthOf kind) n (drop 1 (now (part .entry)))) ⌝ }
+    ensures { λ r. ⌜ r ≡ all (recordBetween kind (first .0) (last .0))
+        (recordsOf (widthOf kind) n (drop 1 (now (part .entry)))) ⌝ }
 {
     let mut k: usize = 0;
     while k < n {
@@ -129,7 +131,8 @@ fn records_between(kind: Records, part: &[u64], n: usize, first: Chronon, last: 
 // Whether a partition is sound, given its capacity and its first and last chronon.
 fn sound_part(kind: Records, part: &[u64], capacity: usize, first: Chronon, last: Chronon) -> bool
     requires { ⌜ roomOf (widthOf kind) capacity ≤ length (now part) ⌝ }
-    ensures { λ r. ⌜ r ≡ soundPart (widthOf kind) capacity (recordBetween kind (first .0) (last .0)) (now (part .entry)) ⌝ }
+    ensures { λ r. ⌜ r ≡ soundPart (widthOf kind) capacity (recordBetween kind (first .0) (last .0))
+        (now (part .entry)) ⌝ }
 {
     let n = part[0] as usize;
     if capacity < n {

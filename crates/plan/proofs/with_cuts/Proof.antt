@@ -1,10 +1,9 @@
--- `plan::with_cuts` meets its contract. The loop's invariant is `Spliced`: the first i places are the new ones, the others the
--- old ones. The measure is how many places are left.
+-- `plan::with_cuts` meets its contract. The loop's invariant is `Spliced`: the first i places are the new ones, the
+-- others the old ones. The measure is how many places are left.
 -- Assumes nothing.
-use mathlib.Core.List.{List}
 use mathlib.Core.Logic.{⊎-elim}
-use mathlib.Core.Path.{_≡_, refl, sym, _∙_, ap}
-use Prim.Native.Nat.{ℕ, _-_, min}
+use mathlib.Core.Path.{_≡_, ap}
+use Prim.Native.Nat.{_-_, min}
 use native.Mathlib.Omega.{arith}
 use lib.ListN.{length, length-map}
 use Rattle.plan.specs.Plan.{withCuts}
@@ -60,7 +59,8 @@ returns : tie.Need-returns Inv-loop μ-loop
 unfolding withCuts
 returns c =
     let a = c .before .before .before .before .args in
-    let e = spliced-end (a .t2) (a .p .lasts) (c .before .before .if1 .places) (a .p .count) (c .before .loop .i) (c .before .loop .lasts)
+    let e = spliced-end (a .t2) (a .p .lasts) (c .before .before .if1 .places) (a .p .count) (c .before .loop .i)
+    (c .before .loop .lasts)
     (used-is (c .before .before)) (c .loop-test .left) (c .before .loop .inv) in
     λ k. record { count = a .p .count; lasts = e k; tuples = a .p .tuples; rows = a .p .rows }
 

@@ -75,7 +75,10 @@ shared-slice-read-high-4 : tie.Need-shared-slice-read-high-4
 shared-slice-read-high-4 c = search needs
 
 returns : tie.Need-returns
-returns c = eight-test (c .before .before .before .before .before .before .before .before .args .words .now) (c .before .before .before .before .before .before .before .before .args .i) (c .before .before .before .before .before .before .before .before .pre)
+returns c =
+    eight-test (c .before .before .before .before .before .before .before .before .args .words .now)
+    (c .before .before .before .before .before .before .before .before .args .i)
+    (c .before .before .before .before .before .before .before .before .pre)
 
 pub any-of-eight-spec : {M : Type 1} → statement M
 any-of-eight-spec =

@@ -30,7 +30,10 @@ any-of-eight-requires : tie.Need-any-of-eight-requires Inv-loop μ-loop
 any-of-eight-requires c κs = omega arith
 
 returns-2 : tie.Need-returns-2 Inv-loop μ-loop
-returns-2 c = sym (c .before .before .before .loop .inv ∙ zeros-pieces 8 (c .before .before .before .loop .i) (c .before .before .before .before .before .before .args .words .now) ∙ rw (sym (c .before .any-of-eight .ensures) ∙ ne-eqb _ _ (c .if2 .taken)))
+returns-2 c =
+    sym (c .before .before .before .loop .inv ∙ zeros-pieces 8 (c .before .before .before .loop .i)
+    (c .before .before .before .before .before .before .args .words .now) ∙ rw
+    (sym (c .before .any-of-eight .ensures) ∙ ne-eqb _ _ (c .if2 .taken)))
 
 add-i : tie.Need-add-i Inv-loop μ-loop
 add-i c = omega arith
@@ -39,7 +42,10 @@ loop-less : tie.Need-loop-less Inv-loop μ-loop
 loop-less c = omega arith
 
 loop-again : tie.Need-loop-again Inv-loop μ-loop
-loop-again c = c .before .before .before .loop .inv ∙ zeros-pieces 8 (c .before .before .before .loop .i) (c .before .before .before .before .before .before .args .words .now) ∙ rw (sym (c .before .any-of-eight .ensures) ∙ eq-eqb _ _ (c .if2 .left))
+loop-again c =
+    c .before .before .before .loop .inv ∙ zeros-pieces 8 (c .before .before .before .loop .i)
+    (c .before .before .before .before .before .before .args .words .now) ∙ rw
+    (sym (c .before .any-of-eight .ensures) ∙ eq-eqb _ _ (c .if2 .left))
 
 zeros-one-by-one-requires-2 : tie.Need-zeros-one-by-one-requires-2 Inv-loop μ-loop
 zeros-one-by-one-requires-2 c κs = search needs

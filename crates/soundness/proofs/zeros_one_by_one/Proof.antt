@@ -26,7 +26,9 @@ shared-slice-read-if1 : tie.Need-shared-slice-read-if1 Inv-loop μ-loop
 shared-slice-read-if1 c = search needs
 
 returns : tie.Need-returns Inv-loop μ-loop
-returns c = sym (c .before .before .before .loop .inv ∙ zeros-stop (c .before .before .before .loop .i) (c .before .before .before .before .args .words .now) (c .before .before .loop-test .taken) (c .if1 .taken))
+returns c =
+    sym (c .before .before .before .loop .inv ∙ zeros-stop (c .before .before .before .loop .i)
+    (c .before .before .before .before .args .words .now) (c .before .before .loop-test .taken) (c .if1 .taken))
 
 add-i : tie.Need-add-i Inv-loop μ-loop
 add-i c = search needs
@@ -35,10 +37,14 @@ loop-less : tie.Need-loop-less Inv-loop μ-loop
 loop-less c = omega arith
 
 loop-again : tie.Need-loop-again Inv-loop μ-loop
-loop-again c = c .before .before .before .loop .inv ∙ zeros-next (c .before .before .before .loop .i) (c .before .before .before .before .args .words .now) (c .before .before .loop-test .taken) (c .if1 .left)
+loop-again c =
+    c .before .before .before .loop .inv ∙ zeros-next (c .before .before .before .loop .i)
+    (c .before .before .before .before .args .words .now) (c .before .before .loop-test .taken) (c .if1 .left)
 
 returns-2 : tie.Need-returns-2 Inv-loop μ-loop
-returns-2 c = sym (c .before .loop .inv ∙ zeros-end (c .before .loop .i) (c .before .before .args .words .now) (c .loop-test .left))
+returns-2 c =
+    sym (c .before .loop .inv ∙ zeros-end (c .before .loop .i) (c .before .before .args .words .now)
+    (c .loop-test .left))
 
 pub zeros-one-by-one-spec : {M : Type 1} → statement M
 zeros-one-by-one-spec =

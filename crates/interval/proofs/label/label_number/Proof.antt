@@ -1,13 +1,15 @@
--- `interval::label::label_number` meets its contract. The loop's invariant is `Read`: i letters are read, their number is n.
+-- `interval::label::label_number` meets its contract. The loop's invariant is `Read`: i letters are read, their number
+-- is n.
 -- The measure is how many are left. Assumes nothing.
 use mathlib.Core.Path.{_≡_, sym, _∙_}
-use Prim.Native.Nat.{ℕ, _-_}
+use Prim.Native.Nat.{_-_}
 use native.Mathlib.Omega.{arith}
 use borrow.Author.Needs.{needs}
 use lib.ListN.{length, getD}
 use Rattle.interval.specs.Label.{rank}
 use Rattle.interval.proofs.Labels.{rank-most}
-use Rattle.interval.proofs.Letters.{Read, none-short, none-long, number-fits, read-none, read-more, read-stop, read-all}
+use Rattle.interval.proofs.Letters.{Read, none-short, none-long, number-fits, read-none, read-more, read-stop}
+use Rattle.interval.proofs.Letters.{read-all}
 use Rattle.interval.proofs.label.label_number.Statement.{statement}
 use Rattle.interval.proofs.label.label_number.Tie as tie
 
@@ -33,13 +35,41 @@ rank-of-requires : tie.Need-rank-of-requires Inv-loop μ-loop
 rank-of-requires c κs = search needs
 
 returns-3 : tie.Need-returns-3 Inv-loop μ-loop
-returns-3 c = read-stop (c .before .before .before .before .before .before .before .before .args .letters .now) (c .before .before .before .before .loop .i) (c .before .before .before .before .loop .n) (c .before .before .before .loop-test .taken) (sym (c .before .rank-of .ensures) ∙ c .if3 .taken) (c .before .before .before .before .loop .inv)
+returns-3 c =
+    read-stop (c .before .before .before .before .before .before .before .before .args .letters .now)
+    (c .before .before .before .before .loop .i) (c .before .before .before .before .loop .n)
+    (c .before .before .before .loop-test .taken) (sym (c .before .rank-of .ensures) ∙ c .if3 .taken)
+    (c .before .before .before .before .loop .inv)
 
 mul-n : tie.Need-mul-n Inv-loop μ-loop
-mul-n c = record { fits = omega (arith, number-fits (c .before .before .before .before .before .before .before .before .args .letters .now) (c .before .before .before .before .loop .i) (c .before .before .before .before .loop .n) (c .before .before .before .loop-test .taken) (c .before .before .before .before .before .if2 .left) (c .before .before .before .before .loop .inv)) }
+mul-n c =
+    record {
+      fits = omega (
+        arith,
+        number-fits
+            (c .before .before .before .before .before .before .before .before .args .letters .now)
+            (c .before .before .before .before .loop .i) (c .before .before .before .before .loop .n)
+            (c .before .before .before .loop-test .taken) (c .before .before .before .before .before .if2 .left)
+            (c .before .before .before .before .loop .inv),
+      );
+    }
 
 add-n : tie.Need-add-n Inv-loop μ-loop
-add-n c = record { fits = omega (arith, number-fits (c .before .before .before .before .before .before .before .before .args .letters .now) (c .before .before .before .before .loop .i) (c .before .before .before .before .loop .n) (c .before .before .before .loop-test .taken) (c .before .before .before .before .before .if2 .left) (c .before .before .before .before .loop .inv), c .before .rank-of .ensures, rank-most (getD (c .before .before .before .before .before .before .before .before .args .letters .now) (c .before .before .before .before .loop .i) 0)) }
+add-n c =
+    record {
+      fits = omega (
+        arith,
+        number-fits
+            (c .before .before .before .before .before .before .before .before .args .letters .now)
+            (c .before .before .before .before .loop .i) (c .before .before .before .before .loop .n)
+            (c .before .before .before .loop-test .taken) (c .before .before .before .before .before .if2 .left)
+            (c .before .before .before .before .loop .inv),
+        c .before .rank-of .ensures,
+        rank-most
+            (getD (c .before .before .before .before .before .before .before .before .args .letters .now)
+            (c .before .before .before .before .loop .i) 0),
+      );
+    }
 
 add-i : tie.Need-add-i Inv-loop μ-loop
 add-i c = search needs
@@ -55,7 +85,9 @@ loop-again c =
     rw is (read-more bs (at .i) (at .n) (c .before .before .before .loop-test .taken) (omega arith) (at .inv))
 
 returns-4 : tie.Need-returns-4 Inv-loop μ-loop
-returns-4 c = read-all (c .before .before .before .before .before .args .letters .now) (c .before .loop .i) (c .before .loop .n) (c .before .before .before .if1 .left) (c .before .before .if2 .left) (c .loop-test .left) (c .before .loop .inv)
+returns-4 c =
+    read-all (c .before .before .before .before .before .args .letters .now) (c .before .loop .i) (c .before .loop .n)
+    (c .before .before .before .if1 .left) (c .before .before .if2 .left) (c .loop-test .left) (c .before .loop .inv)
 
 pub label-number-spec : {M : Type 1} → statement M
 label-number-spec =

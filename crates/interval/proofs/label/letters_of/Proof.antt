@@ -1,7 +1,7 @@
--- `interval::label::letters_of` meets its contract. The loop's invariant is `Written`: the letters in hand are the number's last.
+-- `interval::label::letters_of` meets its contract. The loop's invariant is `Written`: the letters in hand are the
+-- number's last.
 -- The measure is what is left of the number. Assumes nothing.
-use mathlib.Core.Path.{_≡_, sym, _∙_}
-use Prim.Native.Nat.{ℕ, _-_}
+use Prim.Native.Nat.{_-_}
 use native.Mathlib.Omega.{arith}
 use borrow.Author.Needs.{needs}
 use Rattle.interval.proofs.Letters.{Written, written-none, written-fits, written-more, written-all, never}
@@ -33,7 +33,14 @@ before-requires : tie.Need-before-requires Inv-loop μ-loop
 before-requires c κs = search needs
 
 add-count : tie.Need-add-count Inv-loop μ-loop
-add-count c = let w = c .before .before .loop in record { fits = omega (arith, written-fits (c .before .before .before .before .args .number) (w .bytes) (w .count) (w .n) (c .before .loop-test .taken) (w .inv)) }
+add-count c =
+    let w = c .before .before .loop in record {
+      fits = omega (
+        arith,
+        written-fits (c .before .before .before .before .args .number) (w .bytes) (w .count) (w .n)
+            (c .before .loop-test .taken) (w .inv),
+      );
+    }
 
 sub-n : tie.Need-sub-n Inv-loop μ-loop
 sub-n c = omega arith
@@ -42,7 +49,10 @@ loop-less : tie.Need-loop-less Inv-loop μ-loop
 loop-less c = omega arith
 
 loop-again : tie.Need-loop-again Inv-loop μ-loop
-loop-again c = let w = c .before .before .loop in rw (c .before2 .ensures) (written-more (c .before .before .before .before .args .number) (w .bytes) (w .count) (w .n) (c .before .loop-test .taken) (w .inv))
+loop-again c =
+    let w = c .before .before .loop in rw (c .before2 .ensures)
+    (written-more (c .before .before .before .before .args .number) (w .bytes) (w .count) (w .n)
+    (c .before .loop-test .taken) (w .inv))
 
 returns-2 : tie.Need-returns-2 Inv-loop μ-loop
 returns-2 c =

@@ -18,21 +18,32 @@ item-check-requires c κs = search needs
 
 returns-2 : tie.Need-returns-2
 unfolding rowNumber
-returns-2 c = answer-next _ (c .before .before .before .label-check .ensures) (c .before .before .if1 .left) (answer-here _ (c .before .item-check .ensures) (c .if2 .taken))
+returns-2 c =
+    answer-next _ (c .before .before .before .label-check .ensures) (c .before .before .if1 .left)
+    (answer-here _ (c .before .item-check .ensures) (c .if2 .taken))
 
 item-check-requires-2 : tie.Need-item-check-requires-2
 item-check-requires-2 c κs = search needs
 
 returns-3 : tie.Need-returns-3
 unfolding rowNumber
-returns-3 c = answer-next _ (c .before .before .before .before .before .label-check .ensures) (c .before .before .before .before .if1 .left) (answer-next _ (c .before .before .before .item-check .ensures) (c .before .before .if2 .left) (answer-here _ (c .before .item-check2 .ensures) (c .if3 .taken)))
+returns-3 c =
+    answer-next _ (c .before .before .before .before .before .label-check .ensures)
+    (c .before .before .before .before .if1 .left)
+    (answer-next _ (c .before .before .before .item-check .ensures) (c .before .before .if2 .left)
+    (answer-here _ (c .before .item-check2 .ensures) (c .if3 .taken)))
 
 valid-check-requires : tie.Need-valid-check-requires
 valid-check-requires c κs = search needs
 
 returns-4 : tie.Need-returns-4
 unfolding rowNumber
-returns-4 c = answer-next _ (c .before .before .before .before .before .before .label-check .ensures) (c .before .before .before .before .before .if1 .left) (answer-next _ (c .before .before .before .before .item-check .ensures) (c .before .before .before .if2 .left) (answer-next _ (c .before .before .item-check2 .ensures) (c .before .if3 .left) (answer-last (c .valid-check .ensures))))
+returns-4 c =
+    answer-next _ (c .before .before .before .before .before .before .label-check .ensures)
+    (c .before .before .before .before .before .if1 .left)
+    (answer-next _ (c .before .before .before .before .item-check .ensures) (c .before .before .before .if2 .left)
+    (answer-next _ (c .before .before .item-check2 .ensures) (c .before .if3 .left)
+    (answer-last (c .valid-check .ensures))))
 
 pub row-number-spec : {M : Type 1} → statement M
 row-number-spec =

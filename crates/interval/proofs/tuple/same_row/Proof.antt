@@ -16,14 +16,26 @@ returns-2 c = simp (eq-eqb _ _ (c .before .before .before .if1 .left), ne-eqb _ 
 
 returns-3 : tie.Need-returns-3
 unfolding sameRow
-returns-3 c = simp (eq-eqb _ _ (c .before .before .before .before .before .before .if1 .left), eq-eqb _ _ (c .before .before .before .if2 .left), ne-eqb _ _ (c .if3 .taken))
+returns-3 c =
+    simp (
+      eq-eqb _ _ (c .before .before .before .before .before .before .if1 .left),
+      eq-eqb _ _
+          (c .before .before .before .if2 .left),
+      ne-eqb _ _ (c .if3 .taken),
+    )
 
 same-interval-requires : tie.Need-same-interval-requires
 same-interval-requires c κs = search needs
 
 returns-4 : tie.Need-returns-4
 unfolding sameRow
-returns-4 c = simp (eq-eqb _ _ (c .before .before .before .before .before .before .before .if1 .left), eq-eqb _ _ (c .before .before .before .before .if2 .left), eq-eqb _ _ (c .before .if3 .left)) (c .same-interval .ensures)
+returns-4 c =
+    simp (
+      eq-eqb _ _ (c .before .before .before .before .before .before .before .if1 .left),
+      eq-eqb _ _
+          (c .before .before .before .before .if2 .left),
+      eq-eqb _ _ (c .before .if3 .left),
+    ) (c .same-interval .ensures)
 
 pub same-row-spec : {M : Type 1} → statement M
 same-row-spec = tie.close (tie.spec returns returns-2 returns-3 same-interval-requires returns-4)

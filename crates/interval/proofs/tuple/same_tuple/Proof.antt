@@ -19,7 +19,9 @@ same-interval-requires c κs = search needs
 
 returns-3 : tie.Need-returns-3
 unfolding sameTuple
-returns-3 c = simp (eq-eqb _ _ (c .before .before .before .before .if1 .left), eq-eqb _ _ (c .before .if2 .left)) (c .same-interval .ensures)
+returns-3 c =
+    simp (eq-eqb _ _ (c .before .before .before .before .if1 .left), eq-eqb _ _ (c .before .if2 .left))
+    (c .same-interval .ensures)
 
 pub same-tuple-spec : {M : Type 1} → statement M
 same-tuple-spec = tie.close (tie.spec returns returns-2 same-interval-requires returns-3)

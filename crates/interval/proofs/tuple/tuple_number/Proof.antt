@@ -18,14 +18,19 @@ item-check-requires c κs = search needs
 
 returns-2 : tie.Need-returns-2
 unfolding tupleNumber
-returns-2 c = answer-next _ (c .before .before .before .label-check .ensures) (c .before .before .if1 .left) (answer-here _ (c .before .item-check .ensures) (c .if2 .taken))
+returns-2 c =
+    answer-next _ (c .before .before .before .label-check .ensures) (c .before .before .if1 .left)
+    (answer-here _ (c .before .item-check .ensures) (c .if2 .taken))
 
 valid-check-requires : tie.Need-valid-check-requires
 valid-check-requires c κs = search needs
 
 returns-3 : tie.Need-returns-3
 unfolding tupleNumber
-returns-3 c = answer-next _ (c .before .before .before .before .label-check .ensures) (c .before .before .before .if1 .left) (answer-next _ (c .before .before .item-check .ensures) (c .before .if2 .left) (answer-last (c .valid-check .ensures)))
+returns-3 c =
+    answer-next _ (c .before .before .before .before .label-check .ensures) (c .before .before .before .if1 .left)
+    (answer-next _ (c .before .before .item-check .ensures) (c .before .if2 .left)
+    (answer-last (c .valid-check .ensures)))
 
 pub tuple-number-spec : {M : Type 1} → statement M
 tuple-number-spec =

@@ -73,7 +73,8 @@ put-partition-requires c κs =
     rw (partition-is c) (
       partition-room (a .p) (a .rows .now) (s .pre .0) (at .loop .i) (turn .if1 .taken),
       left-room (a .at) (partitionsText (a .p) (a .rows .now)) (a .out .now) (s .pre .1) (at .loop .next)
-          (at .loop .out) (partitionText (at .loop .i + 1) (rowPart (a .p) (a .rows .now) (at .loop .i))) _ (next-partition turn),
+          (at .loop .out) (partitionText (at .loop .i + 1) (rowPart (a .p) (a .rows .now) (at .loop .i))) _
+          (next-partition turn),
     )
 
 add-i : tie.Need-add-i Inv-loop μ-loop
