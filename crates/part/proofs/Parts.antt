@@ -202,7 +202,7 @@ pub record Kind (A : Type 0) : Type 0 where
 
 -- an append puts the value after the others
 abbrev pub Appends : {A : Type 0} → Kind A → (A → List ℕ) → Type 0
-Appends kind words = (x : _) (part : List ℕ) → roomOf (kind .width) (counted part + 1) ≤ length part
+Appends {A} kind words = (x : A) (part : List ℕ) → roomOf (kind .width) (counted part + 1) ≤ length part
     → kind .held (appended (kind .width) (words x) part) ≡ kind .held part ++ (x ∷ [])
 
 -- a removal takes value k out: the others are there, each as often

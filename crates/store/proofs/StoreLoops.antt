@@ -21,7 +21,8 @@ use Rattle.lists.proofs.Below.{up-next, up-end}
 use Rattle.plan.specs.Plan.{planNumber, legalPlan}
 use Rattle.plan.specs.declared.Partitioning.{Partitioning}
 use Rattle.plan.proofs.Homes.{legal-plan, test-plan-legal}
-use Rattle.store.specs.Store.{tupleRoom, rowRoom}
+use Rattle.part.specs.Part.{roomOf, counted, appended}
+use Rattle.store.specs.Store.{tupleRoom, rowRoom, onPartition}
 
 -- ---- a test of every partition: those from i on decide
 
@@ -60,11 +61,11 @@ pub rows-fit : (p : Partitioning) → planNumber p ≡ 0 → Fits w64 (p .count 
 rows-fit p h = length-fits (p .count) _ (legal-plan p h .most) (omega (arith, legal-plan p h .rows-most))
 
 -- a length that fits: the plan is legal, and the length is what it gives
-module _ (p : Partitioning) (n size : ℕ) where
-  pub fit-is : (legalPlan p && eqb n (p .count * size)) ≡ true → (planNumber p ≡ 0) × (n ≡ p .count * size)
+module _ (p : Partitioning) (n room : ℕ) where
+  pub fit-is : (legalPlan p && eqb n (p .count * room)) ≡ true → (planNumber p ≡ 0) × (n ≡ p .count * room)
   fit-is h = (
-    test-plan-legal p (and-left (legalPlan p) (eqb n (p .count * size)) h),
-    eqb-true n (p .count * size) (and-right (legalPlan p) (eqb n (p .count * size)) h),
+    test-plan-legal p (and-left (legalPlan p) (eqb n (p .count * room)) h),
+    eqb-true n (p .count * room) (and-right (legalPlan p) (eqb n (p .count * room)) h),
   )
 
 -- ---- a partition lent to a writer, and back
@@ -80,9 +81,20 @@ lent-is at room ws = ap (λ (k : ℕ). take k (drop at ws)) (add-sub-cancel-left
 pub lent-room : (n at room : ℕ) (ws : List ℕ) → at + room ≤ length ws → n ≤ room → n ≤ length (lent at room ws)
 lent-room n at room ws h g = rw (lent-is at room ws) (omega (arith, length-part at room ws h))
 
+-- so has one record more, of that width
+pub lent-append : (w at room : ℕ) (ws : List ℕ) → at + room ≤ length ws
+    → roomOf w (counted (partAt at room ws) + 1) ≤ room
+    → roomOf w (counted (lent at room ws) + 1) ≤ length (lent at room ws)
+lent-append w at room ws h g = lent-room _ at room ws h (rw (lent-is at room ws) g)
+
 -- what the writer left, put back
 pub put-back : (f : List ℕ → List ℕ) (at room : ℕ) (ws ys : List ℕ) → ys ≡ f (lent at room ws)
     → putMid at (at + room - at) ws ys ≡ onPart at room f ws
 put-back f at room ws ys e =
     rw (e, lent-is at room ws)
     (ap (λ (k : ℕ). take at ws ++ (f (partAt at room ws) ++ drop k (drop at ws))) (add-sub-cancel-left at room))
+
+-- what an append to partition i left, put back
+pub lent-back : (w i room : ℕ) (r ws : List ℕ) {ys : List ℕ} → ys ≡ appended w r (lent (i * room) room ws)
+    → putMid (i * room) (i * room + room - i * room) ws ys ≡ onPartition room i (appended w r) ws
+lent-back w i room r ws e = put-back (appended w r) (i * room) room ws _ e

@@ -1,9 +1,6 @@
 -- `store::append_tuple` meets its contract: the partition is lent to the writer and put back.
 -- Assumes nothing.
-use Prim.Native.Nat.{_*_}
-use Rattle.interval.specs.Tuple.{tupleWidth, tupleWords}
-use Rattle.part.specs.Part.{appended}
-use Rattle.store.proofs.StoreLoops.{lent-is, lent-room, put-back}
+use Rattle.store.proofs.StoreLoops.{lent-append, lent-back}
 use borrow.Author.Needs.{needs}
 use Rattle.store.proofs.append_tuple.Statement.{statement}
 use Rattle.store.proofs.append_tuple.Tie as tie
@@ -27,13 +24,15 @@ part-append-tuple-end : tie.Need-part-append-tuple-end
 part-append-tuple-end c = search needs
 
 append-tuple-requires : tie.Need-append-tuple-requires
-append-tuple-requires c κs = let a = c .before .before .args in let at = a .i .0 * a .room in lent-room _ at (a .room) (a .store .now) (c .before .before .pre .0) (rw (lent-is at (a .room) (a .store .now)) (c .before .before .pre .1))
+append-tuple-requires c κs = lent-append _ _ _ _ (c .before .before .pre .0) (c .before .before .pre .1)
 
 same-length : tie.Need-same-length
 same-length c = search needs
 
 returns : tie.Need-returns
-returns c = let a = c .before .before .before .before .before .args in put-back (appended tupleWidth (tupleWords (a .t))) (a .i .0 * a .room) (a .room) (a .store .now) _ (c .before .before .append-tuple .ensures)
+returns c =
+    let a = c .before .before .before .before .before .args in
+    lent-back _ (a .i .0) (a .room) _ (a .store .now) (c .before .before .append-tuple .ensures)
 
 pub append-tuple-spec : {M : Type 1} → statement M
 append-tuple-spec =
