@@ -10,7 +10,8 @@ use Prim.Native.Nat.{ℕ, _-_}
 use lib.ListN.{getD, drop, replicate}
 use lib.Dec.{ltb}
 use Rattle.lists.specs.Same.{times}
-use Rattle.interval.specs.Tuple.{tuple, row, tupleWidth, tupleWords, sameTuple, rowWidth, rowWords, sameRow, sameInterval}
+use Rattle.interval.specs.Tuple.{tuple, row, tupleWidth, tupleWords, sameTuple, rowWidth, rowWords, sameRow}
+use Rattle.interval.specs.Tuple.{sameInterval}
 use Rattle.interval.specs.declared.tuple.Tuple.{Tuple}
 use Rattle.interval.specs.declared.tuple.Row.{Row}
 use Rattle.part.specs.Part.{roomOf, counted, recordsIn, tuplesIn, rowsIn, tupleAt, rowAt, soundPart}

@@ -1,5 +1,5 @@
--- One partition (document 01: lane) as words: "one count word, then its full capacity of records". What is read of it, and
--- what the writers leave. The width w of a record is a tuple's or a row's.
+-- One partition (document 01: lane) as words: "one count word, then its full capacity of records". What is read of it,
+-- and what the writers leave. The width w of a record is a tuple's or a row's.
 -- The laws are in proofs/Parts.antt.
 use mathlib.Core.Bool.{Bool, _&&_}
 use mathlib.Core.List.{List, map}
@@ -40,8 +40,8 @@ tupleAt part k = tupleOf (recordAt tupleWidth k (drop 1 part))
 unfoldable pub rowAt : List ℕ → ℕ → Row
 rowAt part k = rowOf (recordAt rowWidth k (drop 1 part))
 
--- "A store is sound if each count is within capacity, each counted record is legal and belongs to its lane, and all words
--- after the counted records are 0": of one partition, where ok says that a record is legal and belongs here
+-- "A store is sound if each count is within capacity, each counted record is legal and belongs to its lane, and all
+-- words after the counted records are 0": of one partition, where ok says that a record is legal and belongs here
 unfoldable pub soundPart : ℕ → ℕ → (List ℕ → Bool) → List ℕ → Bool
 soundPart w capacity ok part =
     leb (counted part) capacity && (all ok (recordsIn w part) && zeros (drop (roomOf w (counted part)) part))

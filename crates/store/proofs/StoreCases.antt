@@ -1,7 +1,7 @@
 -- Closed cases that compute, from the definitions that the promises cite. The plan has three partitions, with the last
 -- chronons 34, 40 and 99999999, two tuples and one row in each: 27 words a tuple store, 18 the rows store.
--- In order: lengths; tuple stores that are sound and that are not; rows stores; all that a store holds; partitions read;
--- partitions changed, word for word.
+-- In order: lengths; tuple stores that are sound and that are not; rows stores; all that a store holds; partitions
+-- read; partitions changed, word for word.
 -- Assumes nothing.
 use mathlib.Core.Bool.{Bool, true, false, _&&_}
 use mathlib.Core.List.{List, [], _∷_, _++_, map}
@@ -122,8 +122,8 @@ Sounds fits sound answer (c ∷ cs) =
 abbrev Tuples : Bool → List (Partitioning × List ℕ) → Type 0
 Tuples = Sounds fitsTuples soundTuples
 
--- no tuple; the first and the last chronon of each partition, a tuple that starts partitions before, two that are equal,
--- the largest label and item number, all places taken
+-- no tuple; the first and the last chronon of each partition, a tuple that starts partitions before, two that are
+-- equal, the largest label and item number, all places taken
 tuples-right : List (Partitioning × List ℕ)
 tuples-right =
     (p, replicate 27 0)
@@ -202,7 +202,9 @@ tuples-hold : Tuples true tuples-right
     × Tuples false tails
     × Tuples false illegals
     × Tuples false misfits
-unfolding Sounds tuples-right tuples-away counts tails illegals misfits firstOf labelCheck itemCheck validCheck tupleNumber legalTuple cutsOf cover planNumber legalPlan homeOf home counted recordsIn soundPart fitsTuples tupleAtHome soundTuplePart soundTuples
+unfolding Sounds tuples-right tuples-away counts tails illegals misfits firstOf labelCheck itemCheck validCheck
+    tupleNumber legalTuple cutsOf cover planNumber legalPlan homeOf home counted recordsIn soundPart fitsTuples
+    tupleAtHome soundTuplePart soundTuples
 tuples-hold = (
   (refl, (refl, (refl, (refl, (refl, (refl, (refl, (refl, (refl, (refl, tt)))))))))),
   (refl, (refl, (refl, (refl, (refl, (refl, tt)))))),
@@ -230,8 +232,9 @@ rows-right =
     ∷ ((p, store (one6 38 10 1 30 31) (one6 217180147158 999999 999999 33 35) (one6 1 0 0 41 48))
     ∷ [])))))))
 
--- in the partition before, in the one after; a count above the capacity; a word that is not 0 after the counted rows, the
--- first and the last; rows that are not legal; zeros of another length, and of the length of a plan that is not legal
+-- in the partition before, in the one after; a count above the capacity; a word that is not 0 after the counted rows,
+-- the first and the last; rows that are not legal; zeros of another length, and of the length of a plan that is not
+-- legal
 rows-wrong : List (Partitioning × List ℕ)
 rows-wrong =
     (p, store no6 (one6 38 10 1 30 34) no6)
@@ -256,10 +259,29 @@ rows-wrong =
 
 -- each of them computes
 rows-hold : Rows true rows-right × Rows false rows-wrong
-unfolding Sounds rows-right rows-wrong firstOf labelCheck itemCheck validCheck rowNumber legalRow cutsOf cover planNumber legalPlan homeOf home counted recordsIn soundPart fitsRows rowAtHome soundRowPart soundRows
+unfolding Sounds rows-right rows-wrong firstOf labelCheck itemCheck validCheck rowNumber legalRow cutsOf cover
+    planNumber legalPlan homeOf home counted recordsIn soundPart fitsRows rowAtHome soundRowPart soundRows
 rows-hold = (
   (refl, (refl, (refl, (refl, (refl, (refl, (refl, (refl, tt)))))))),
-  (refl, (refl, (refl, (refl, (refl, (refl, (refl, (refl, (refl, (refl, (refl, (refl, (refl, (refl, (refl, (refl, (refl, (refl, tt)))))))))))))))))),
+  (
+    refl,
+    (
+      refl,
+      (
+        refl,
+        (
+          refl,
+          (
+            refl,
+            (
+              refl,
+              (refl, (refl, (refl, (refl, (refl, (refl, (refl, (refl, (refl, (refl, (refl, (refl, tt)))))))))))),
+            ),
+          ),
+        ),
+      ),
+    ),
+  ),
 )
 
 -- ---- all that a store holds, partition after partition: what is not counted is not held

@@ -1,34 +1,34 @@
--- Laws of whole stores: a partition changed and the others kept; soundness, partition by partition; what a store holds, with
--- one record more or fewer; each record in the partition it belongs to; the empty store.
--- The laws that do not speak of tuples or rows are stated once, over the partitions' room and number; so is what is said
--- of tuple stores and of rows stores alike, over what specs/Store names for each (`SoundAt` and the like).
+-- Laws of whole stores: a partition changed and the others kept; soundness, partition by partition; what a store holds,
+-- with one record more or fewer; each record in the partition it belongs to; the empty store.
+-- The laws that do not speak of tuples or rows are stated once, over the partitions' room and number; so is what is
+-- said of tuple stores and of rows stores alike, over what specs/Store names for each (`SoundAt` and the like).
 -- Assumes nothing.
 use mathlib.Core.Bool.{Bool, true, false, _&&_}
-use mathlib.Core.List.{List, [], _∷_, _++_, map, append-assoc}
-use mathlib.Core.Logic.{_⊎_, inl, inr, ⊎-elim}
-use mathlib.Core.Path.{_≡_, refl, sym, _∙_, ap, subst}
-use Prim.Native.Nat.{ℕ, zero, suc, _+_, _-_, _*_, _≤_, _<_}
+use mathlib.Core.List.{List, [], _∷_, map}
+use mathlib.Core.Logic.{_⊎_, ⊎-elim}
+use mathlib.Core.Path.{_≡_, refl, sym, _∙_, ap}
+use Prim.Native.Nat.{ℕ, _+_, _-_, _*_, _≤_, _<_}
 use native.Mathlib.Omega.{arith}
-use lib.ListN.{length, getD, take, drop, replicate}
-use lib.Dec.{eqb, ltb}
-use borrow.Author.Tests.{eqb-true, eqb-false, eq-eqb, ne-eqb, lt-ltb}
-use Rattle.lists.specs.Members.{all, any, keep, gather, tally, total, below}
+use lib.ListN.{length, replicate}
+use lib.Dec.{eqb}
+use borrow.Author.Tests.{eqb-true, eqb-false, ne-eqb}
+use Rattle.lists.specs.Members.{all, keep, gather, tally, total, below}
 use Rattle.lists.specs.Choice.{pick}
 use Rattle.lists.specs.Same.{Same}
-use Rattle.lists.specs.Words.{partAt, onPart}
-use Rattle.lists.proofs.Choice.{bool-cases, and-left, and-right, and-both}
-use Rattle.lists.proofs.Members.{all-map, all-imply, keep-all, keep-none, any-not-all}
+use Rattle.lists.specs.Words.{onPart}
+use Rattle.lists.proofs.Choice.{bool-cases, and-left, and-right}
+use Rattle.lists.proofs.Members.{all-map, all-imply, keep-all}
 use Rattle.lists.proofs.Gather.{keep-gather, gather-nil, tally-gather, all-gather}
 use Rattle.lists.proofs.Tally.{tally-append}
 use Rattle.lists.proofs.Below.{all-below, below-all, gather-one, gather-cong-below, total-more}
 use Rattle.lists.proofs.Parts.{start-within, length-part, length-put, part-put, part-put-other, part-replicate}
-use Rattle.interval.specs.Tuple.{tupleWidth, tupleOf, tupleWords, to, legalTuple, sameTuple}
-use Rattle.interval.specs.Tuple.{rowWidth, rowOf, rowWords, rowTo, legalRow, sameRow}
+use Rattle.interval.specs.Tuple.{to, legalTuple}
+use Rattle.interval.specs.Tuple.{rowTo, legalRow}
 use Rattle.interval.specs.declared.tuple.Tuple.{Tuple}
 use Rattle.interval.specs.declared.tuple.Row.{Row}
 use Rattle.plan.specs.Plan.{home}
-use Rattle.part.specs.Part.{roomOf, counted, recordsIn, tuplesIn, rowsIn, soundPart, appended, removed}
-use Rattle.store.specs.Store.{tupleRoom, rowRoom, partitionAt, onPartition, tuplePart, rowPart}
+use Rattle.part.specs.Part.{roomOf, recordsIn, tuplesIn, rowsIn, soundPart}
+use Rattle.store.specs.Store.{tupleRoom, rowRoom, partitionAt, onPartition, tuplePart}
 use Rattle.store.specs.Store.{tupleAtHome, rowAtHome, soundTuplePart, soundRowPart, soundTuples, soundRows}
 use Rattle.store.specs.Store.{storedTuples, storedRows, tuplesAt, rowsAt}
 use Rattle.plan.specs.declared.Partitioning.{Partitioning}
@@ -63,7 +63,8 @@ module _ (room n i : ℕ) (f : List ℕ → List ℕ) (ws : List ℕ) (long : le
           (bool-cases (eqb j i))
 
 -- the length of a partition of a store
-pub partition-length : (room n i : ℕ) (ws : List ℕ) → length ws ≡ n * room → i < n → length (partitionAt room ws i) ≡ room
+pub partition-length : (room n i : ℕ) (ws : List ℕ) → length ws ≡ n * room → i < n
+    → length (partitionAt room ws i) ≡ room
 partition-length room n i ws long h = length-part (i * room) room ws (omega (arith, start-within i n room h))
 
 -- ---- soundness, partition by partition: what is said of tuple stores and of rows stores alike, then of each

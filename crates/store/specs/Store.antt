@@ -2,12 +2,13 @@
 -- The laws are in proofs/Stores.antt.
 use mathlib.Core.Bool.{Bool, _&&_}
 use mathlib.Core.List.{List}
-use Prim.Native.Nat.{ℕ, _+_, _*_, _<_}
+use Prim.Native.Nat.{ℕ, _*_, _<_}
 use lib.Dec.{eqb}
 use Rattle.lists.specs.Members.{all, keep, gather, below}
 use Rattle.lists.specs.Same.{Same}
 use Rattle.lists.specs.Words.{partAt, onPart}
-use Rattle.interval.specs.Tuple.{tupleWidth, tupleOf, to, legalTuple, sameTuple, rowWidth, rowOf, rowTo, legalRow, sameRow}
+use Rattle.interval.specs.Tuple.{tupleWidth, tupleOf, to, legalTuple, sameTuple, rowWidth, rowOf, rowTo, legalRow}
+use Rattle.interval.specs.Tuple.{sameRow}
 use Rattle.interval.specs.declared.tuple.Tuple.{Tuple}
 use Rattle.interval.specs.declared.tuple.Row.{Row}
 use Rattle.plan.specs.Plan.{legalPlan, home}
@@ -78,7 +79,8 @@ rowsAt p i rs = keep (λ (r : Row). eqb (home p (rowTo r)) i) rs
 unfoldable pub tuplesAt : Partitioning → ℕ → List Tuple → List Tuple
 tuplesAt p i ts = keep (λ (t : Tuple). eqb (home p (to t)) i) ts
 
--- the store holds these tuples, these rows: each partition exactly those that belong to it, each as often, in some order
+-- the store holds these tuples, these rows: each partition exactly those that belong to it, each as often, in some
+-- order
 abbrev pub TuplesHeld : Partitioning → List ℕ → List Tuple → Type 0
 TuplesHeld p ws ts = (i : ℕ) → i < p .count → Same sameTuple (tuplesIn (tuplePart p ws i)) (tuplesAt p i ts)
 

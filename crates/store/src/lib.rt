@@ -60,7 +60,8 @@ pub fn partition(store: &[u64], room: usize, i: PartitionIndex) -> &[u64]
 pub fn append_tuple(store: &mut [u64], room: usize, i: PartitionIndex, t: Tuple)
     requires { ⌜ i .0 * room + room ≤ length (now store) ⌝ }
     requires { ⌜ roomOf tupleWidth (counted (partitionAt room (now store) (i .0)) + 1) ≤ room ⌝ }
-    ensures { λ _. ⌜ now (store .exit) ≡ onPartition room (i .0) (appended tupleWidth (tupleWords t)) (now (store .entry)) ⌝ }
+    ensures { λ _. ⌜ now (store .exit) ≡ onPartition room (i .0) (appended tupleWidth (tupleWords t))
+        (now (store .entry)) ⌝ }
 {
     let at = i.0 as usize * room;
     let end = at + room;
@@ -71,7 +72,8 @@ pub fn append_tuple(store: &mut [u64], room: usize, i: PartitionIndex, t: Tuple)
 pub fn append_row(store: &mut [u64], room: usize, i: PartitionIndex, row: Row)
     requires { ⌜ i .0 * room + room ≤ length (now store) ⌝ }
     requires { ⌜ roomOf rowWidth (counted (partitionAt room (now store) (i .0)) + 1) ≤ room ⌝ }
-    ensures { λ _. ⌜ now (store .exit) ≡ onPartition room (i .0) (appended rowWidth (rowWords row)) (now (store .entry)) ⌝ }
+    ensures { λ _. ⌜ now (store .exit) ≡ onPartition room (i .0) (appended rowWidth (rowWords row))
+        (now (store .entry)) ⌝ }
 {
     let at = i.0 as usize * room;
     let end = at + room;

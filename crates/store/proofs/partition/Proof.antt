@@ -27,7 +27,9 @@ part-result-end : tie.Need-part-result-end
 part-result-end c = search needs
 
 returns : tie.Need-returns
-returns c = let a = c .before .args in ap (λ (k : ℕ). take k (drop (a .i .0 * a .room) (a .store .now))) (add-sub-cancel-left (a .i .0 * a .room) (a .room))
+returns c =
+    let a = c .before .args in ap (λ (k : ℕ). take k (drop (a .i .0 * a .room) (a .store .now)))
+    (add-sub-cancel-left (a .i .0 * a .room) (a .room))
 
 pub partition-spec : {M : Type 1} → statement M
 partition-spec =
