@@ -11,7 +11,6 @@ ghost use Prim.Native.Nat.{_+_, _≤_};
 ghost use lib.ListN.{length, take, drop};
 ghost use Rattle.interval.specs.Tuple.{tuple};
 ghost use Rattle.plan.specs.Plan.{mostPartitions, numbers};
-ghost use Rattle.checks.specs.Stores.{stores};
 ghost use Rattle.join.specs.declared.Kind.the-variants.{Insert, Delete};
 ghost use Rattle.exports.specs.Exports.{planHead, planWords, answerWords, minutes, planIn, wordsOf, sideOf};
 ghost use Rattle.exports.specs.Exports.{OpenExported, ChangeExported, SweepExported, CutsExported};
