@@ -138,13 +138,13 @@ EDITS = [
     ),
     (
         'join/lib.rt',
-        'Side::Inner => insertion::insert_into(p, side, t, inner, outer, rows),',
-        'Side::Inner => insertion::insert_into(p, side, t, outer, inner, rows),',
+        'Side::Inner => change_on(kind, p, side, t, inner, outer, rows),',
+        'Side::Inner => change_on(kind, p, side, t, outer, inner, rows),',
     ),
     (
         'join/lib.rt',
-        'Side::Inner => deletion::delete_from(p, side, t, inner, outer, rows),',
-        'Side::Inner => deletion::delete_from(p, Side::Outer, t, inner, outer, rows),',
+        'Side::Inner => change_on(kind, p, side, t, inner, outer, rows),',
+        'Side::Inner => change_on(kind, p, Side::Outer, t, inner, outer, rows),',
     ),
     ('join/lib.rt', 'part::clear(inner);', ''),
     # the sweep: what it carries down, which tuples it joins, and what it counts
@@ -178,7 +178,7 @@ EDITS = [
     ('sweep/partitions.rt', 'let last = lasts[i.0 as usize - 1];', 'let last = lasts[i.0 as usize];'),
     ('sweep/count.rt', 'if p.rows < rows_of(', 'if p.rows <= rows_of('),
     ('sweep/count.rt', 'let above = i.0 + 1;', 'let above = i.0;'),
-    ('join/lib.rt', 'changed: written,', 'changed: compared,'),
+    ('join/lib.rt', 'checks::accepted(written, compared)', 'checks::accepted(compared, compared)'),
     ('join/lib.rt', 'words < TUPLE_WIDTH * need', 'words <= TUPLE_WIDTH * need'),
     ('join/lib.rt', 'words < TUPLE_WIDTH * need', 'words + 1 < TUPLE_WIDTH * need'),
     ('join/lib.rt', 'if is_short(p, inner, inner_cache) {', 'if is_short(p, outer, inner_cache) {'),
@@ -200,7 +200,7 @@ EDITS = [
         'if space != 0 {\n        part::clear(rows);\n        return checks::refused(space);',
     ),
     # the repartition
-    ('join/lib.rt', 'plan: plan::with_cuts(p, new),', 'plan: p,'),
+    ('join/lib.rt', 'plan: next,', 'plan: p,'),
     ('plan/lib.rt', 'let mut places = p.count;', 'let mut places = MOST_PARTITIONS;'),
     ('plan/lib.rt', 'let mut i: u64 = 0;\n    while i < places {', 'let mut i: u64 = 1;\n    while i < places {'),
     ('join/lib.rt', 'if !plan::covers(p.count, new) {', 'if false {'),
@@ -209,14 +209,14 @@ EDITS = [
     ('join/lib.rt', 'if !is_empty(inner, room, p.count) {', 'if false {'),
     (
         'join/lib.rt',
-        'if kept != 0 {\n        return NewPlan {\n            answer: checks::refused(kept),\n            plan: p,',
-        'if kept != 0 {\n        return NewPlan {\n            answer: checks::refused(kept),\n'
-        '            plan: plan::with_cuts(p, new),',
+        'answer: checks::refused(number),\n            plan: p,',
+        'answer: checks::refused(number),\n            plan: plan::with_cuts(p, new),',
     ),
     (
         'join/lib.rt',
-        'if !plan::covers(p.count, new) {\n        return 2;\n    }\n    let room = store::tuple_room(p);',
-        'let room = store::tuple_room(p);\n    if !is_empty(outer, room, p.count) {\n        return 13;\n    }\n'
+        'if !plan::covers(p.count, new) {\n        return 2;\n    }\n'
+        '    if !is_empty_wall(p, outer, inner, rows) {\n        return 13;\n    }',
+        'if !is_empty_wall(p, outer, inner, rows) {\n        return 13;\n    }\n'
         '    if !plan::covers(p.count, new) {\n        return 2;\n    }',
     ),
     # the calls: a refusal that writes, and rows that are put in another order in lanes that are not concerned
