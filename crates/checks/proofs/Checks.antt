@@ -3,12 +3,12 @@
 -- Assumes nothing.
 use mathlib.Core.Bool.{Bool, true, false, not, _&&_}
 use mathlib.Core.List.{List, [], _∷_}
-use mathlib.Core.Path.{_≡_, refl, sym, ap, _∙_}
+use mathlib.Core.Path.{_≡_, refl, ap}
 use Prim.Native.Nat.{ℕ, suc}
 use lib.ListN.{length}
 use borrow.Author.Tests.{not-false}
 use Rattle.lists.specs.Choice.{refuseIf, orElse, firstOf}
-use Rattle.lists.proofs.Choice.{first-none, refuse-none}
+use Rattle.lists.proofs.Choice.{first-none, refuse-none, refusal-met, refusal-passed}
 use Rattle.plan.specs.Plan.{planNumber}
 use Rattle.plan.specs.declared.Partitioning.{Partitioning}
 use Rattle.store.specs.Store.{fitsTuples, fitsRows, soundTuples, soundRows}
@@ -17,12 +17,12 @@ use Rattle.checks.specs.Stores.{lengthsNumber, openNumber, storeNumber}
 
 -- one check, by an answer to its test that holds, and by one that fails
 pub check-none : (n : ℕ) {answer b : Bool} → answer ≡ b → answer ≡ true → 0 ≡ refuseIf (not b) n
-check-none n e t = rw (sym e ∙ t)
+check-none n e t = refusal-passed n (ap not e) (ap not t)
 
 pub check-met : (n : ℕ) {answer b : Bool} → answer ≡ b → answer ≡ false → n ≡ refuseIf (not b) n
-check-met n e f = rw (sym e ∙ f)
+check-met n e f = refusal-met n (ap not e) (ap not f)
 
--- three tests: the first, the second, the third that fails; all hold
+-- three tests: the first fails, the second does, all hold
 pub fails-first : (a b c : Bool) → a ≡ false → (a && (b && c)) ≡ false
 fails-first a b c e = rw e
 

@@ -21,7 +21,7 @@ use Rattle.rows.proofs.Joins.{made-same, apart-gains}
 use Rattle.insertion.specs.Changes.{made, Grown}
 use Rattle.insertion.proofs.Sites.{legal-is}
 use Rattle.history.specs.KeptCurrent.{Untouched}
-use Rattle.history.proofs.Held.{TuplesHeld, joinFrom, join-from-more}
+use Rattle.history.proofs.Held.{TupleStore, joinFrom, join-from-more}
 
 -- ---- a legal tuple belongs to one of the plan's partitions
 
@@ -39,14 +39,14 @@ home-in-plan p legal places t e =
 -- ---- the rows that a tuple makes
 
 -- what a tuple makes with a store is what it makes with the tuples that the store holds
-made-held : (p : Partitioning) (side : Side) (t : Tuple) (ws : List ℕ) (us : List Tuple) → TuplesHeld p ws us
+made-held : (p : Partitioning) (side : Side) (t : Tuple) (ws : List ℕ) (us : List Tuple) → TupleStore p ws us
     → Same sameRow (made p side t ws) (madeWith side t us)
 unfolding made
 made-held p side t ws us h = made-same side t (storedTuples p ws) us (h .held)
 
 -- the join with one tuple more, by the rows that the tuple makes with the other side's store
 pub join-made : (p : Partitioning) (side : Side) (t : Tuple) (ts us : List Tuple) (other : List ℕ)
-    → TuplesHeld p other us → Same sameRow (joinFrom side (t ∷ ts) us) (joinFrom side ts us ++ made p side t other)
+    → TupleStore p other us → Same sameRow (joinFrom side (t ∷ ts) us) (joinFrom side ts us ++ made p side t other)
 join-made p side t ts us other h =
     let before = joinFrom side ts us in
     λ r.

@@ -17,7 +17,7 @@ use Rattle.checks.specs.Stores.{Stores}
 use Rattle.checks.specs.declared.Answer.{Answer}
 use Rattle.checks.proofs.Checks.{fitting}
 use Rattle.join.specs.Opening.{Opened}
-use Rattle.join.proofs.ChangeCalls.{tuples-long, rows-long}
+use Rattle.store.proofs.StoreLoops.{tuples-given, rows-given}
 use Rattle.history.specs.Machine.{Call, Told, Machine, told, next, machineAfter}
 use Rattle.history.specs.Runs.{Step, inserted, deleted, swept, repartitioned, Run, fresh, then}
 use Rattle.history.specs.KeptCurrent.{AllOwed, KeptCurrent}
@@ -43,9 +43,9 @@ opened-kept p places legal s s₀ a o z =
       in-force = refl;
       places = places;
       legal = legal;
-      outer = rw (tuples-long p (length (s .outer)) (f .outer)) (tuples-held-none p);
-      inner = rw (tuples-long p (length (s .inner)) (f .inner)) (tuples-held-none p);
-      rows = rw (rows-long p (length (s .rows)) (f .rows), join-empty-left) (rows-held-none p);
+      outer = rw (tuples-given p (length (s .outer)) (f .outer) .1) (tuples-held-none p);
+      inner = rw (tuples-given p (length (s .inner)) (f .inner) .1) (tuples-held-none p);
+      rows = rw (rows-given p (length (s .rows)) (f .rows) .1, join-empty-left) (rows-held-none p);
     })
 
 -- ---- one call

@@ -39,7 +39,7 @@ use Rattle.deletion.specs.Deletes.{deleted}
 use Rattle.join.specs.Changes.{ownStore, otherStore, deleteNumber, Deleted}
 use Rattle.history.specs.Machine.{delete, Machine, takeOut}
 use Rattle.history.proofs.Changes.{home-in-plan, join-made, untouched}
-use Rattle.history.proofs.Held.{TuplesHeld, RowsHeld, Wall, join-from-same, rows-held-same}
+use Rattle.history.proofs.Held.{TupleStore, RowStore, Wall, join-from-same, rows-held-same}
 use Rattle.history.proofs.Kept.{Kept, Done, ownTuples, otherTuples, withOwn, kept-from, kept-with}
 use Rattle.history.proofs.Kept.{told-accepted, done-refused}
 
@@ -68,7 +68,7 @@ same-cut xs ys zs h = λ r. omega (arith, h r, tally-append (sameRow r) xs zs, t
 
 -- ---- the own store
 
-module _ (p : Partitioning) (t : Tuple) (ws : List ℕ) (ts : List Tuple) (h : TuplesHeld p ws ts)
+module _ (p : Partitioning) (t : Tuple) (ws : List ℕ) (ts : List Tuple) (h : TupleStore p ws ts)
     (within : home p (to t) < p .count) (there : any (sameTuple t) (storedTuples p ws) ≡ true) where
   -- the tuple's partition, its first place there, and the partition without that record
   abbrev part : List ℕ
@@ -133,7 +133,7 @@ module _ (p : Partitioning) (t : Tuple) (ws : List ℕ) (ts : List Tuple) (h : T
   among = sym (any-same sameTuple same-tuple-is (sameTuple t) (storedTuples p ws) ts (h .held)) ∙ there
 
   -- the store holds what it held, without one such tuple
-  pub deleted-held : TuplesHeld p (deleted p t ws) (without (sameTuple t) ts)
+  pub deleted-held : TupleStore p (deleted p t ws) (without (sameTuple t) ts)
   deleted-held = record {
     long = on-length (tupleRoom p) (p .count) (home p (to t)) less ws (h .long) within less-long ∙ h .long;
     sound = sound-tuples-on p (home p (to t)) less ws (h .long) within less-long (h .sound) less-sound;
@@ -145,8 +145,8 @@ module _ (p : Partitioning) (t : Tuple) (ws : List ℕ) (ts : List Tuple) (h : T
 -- ---- the rows store
 
 -- shrunk by the rows `gone`: grown by them it is the store before
-pub shrunk-held : (p : Partitioning) (ws ws′ : List ℕ) (rs gone : List Row) → RowsHeld p ws (rs ++ gone)
-    → Grown p ws′ gone ws → soundRows p ws′ ≡ true → RowsHeld p ws′ rs
+pub shrunk-held : (p : Partitioning) (ws ws′ : List ℕ) (rs gone : List Row) → RowStore p ws (rs ++ gone)
+    → Grown p ws′ gone ws → soundRows p ws′ ≡ true → RowStore p ws′ rs
 shrunk-held p ws ws′ rs gone h g s = record {
   long = sym (g .long) ∙ h .long;
   sound = s;

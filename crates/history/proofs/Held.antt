@@ -4,7 +4,7 @@
 use mathlib.Core.Bool.{true}
 use mathlib.Core.List.{List, [], _∷_, _++_}
 use mathlib.Core.Path.{_≡_, _∙_, ap}
-use Prim.Native.Nat.{ℕ, _*_, _<_}
+use Prim.Native.Nat.{ℕ, _*_}
 use lib.Dec.{eqb}
 use lib.ListN.{length, replicate, length-replicate}
 use Rattle.lists.specs.Same.{Same, times}
@@ -15,10 +15,10 @@ use Rattle.interval.specs.declared.tuple.Row.{Row}
 use Rattle.interval.proofs.Tuples.{same-tuple-is}
 use Rattle.plan.specs.Plan.{home}
 use Rattle.plan.specs.declared.Partitioning.{Partitioning}
-use Rattle.part.specs.Part.{tuplesIn, rowsIn}
+use Rattle.part.specs.Part.{rowsIn}
 use Rattle.part.proofs.Parts.{rows-empty}
-use Rattle.store.specs.Store.{tupleRoom, rowRoom, tuplePart, rowPart, soundTuples, soundRows}
-use Rattle.store.specs.Store.{storedTuples, tuplesAt, rowsAt}
+use Rattle.store.specs.Store.{tupleRoom, rowRoom, soundTuples, soundRows}
+use Rattle.store.specs.Store.{storedTuples, tuplesAt, rowsAt, TuplesHeld, RowsHeld}
 use Rattle.store.proofs.Stores.{tuples-stored-at, empty-part, empty-tuples-sound, empty-rows-sound}
 use Rattle.store.proofs.Stores.{empty-tuples-stored}
 use Rattle.rows.specs.Join.{joinOf, madeWith}
@@ -28,29 +28,28 @@ use Rattle.rows.proofs.Joins.{join-outer-more, join-inner-more, join-same, rows
 
 -- ---- one store
 
--- a tuple store that holds ts
-pub record TuplesHeld (p : Partitioning) (ws : List ℕ) (ts : List Tuple) : Type 0 where
+-- a tuple store of that plan, of its length and sound, that holds ts
+pub record TupleStore (p : Partitioning) (ws : List ℕ) (ts : List Tuple) : Type 0 where
   pub long : length ws ≡ p .count * tupleRoom p
   pub sound : soundTuples p ws ≡ true
   pub held : Same sameTuple (storedTuples p ws) ts
 
--- the rows store that holds rs
-pub record RowsHeld (p : Partitioning) (ws : List ℕ) (rs : List Row) : Type 0 where
+-- the rows store of that plan that holds rs
+pub record RowStore (p : Partitioning) (ws : List ℕ) (rs : List Row) : Type 0 where
   pub long : length ws ≡ p .count * rowRoom p
   pub sound : soundRows p ws ≡ true
-  pub held : (i : ℕ) → i < p .count → Same sameRow (rowsIn (rowPart p ws i)) (rowsAt p i rs)
+  pub held : RowsHeld p ws rs
 
 -- each partition of the tuple store has those of ts that belong to it
-pub tuples-held-at : (p : Partitioning) (ws : List ℕ) (ts : List Tuple) → TuplesHeld p ws ts → (i : ℕ) → i < p .count
-    → Same sameTuple (tuplesIn (tuplePart p ws i)) (tuplesAt p i ts)
+pub tuples-held-at : (p : Partitioning) (ws : List ℕ) (ts : List Tuple) → TupleStore p ws ts → TuplesHeld p ws ts
 unfolding tuplesAt
 tuples-held-at p ws ts h i l =
     rw (← tuples-stored-at p ws (h .sound) i l)
     (same-keep sameTuple same-tuple-is (λ (t : Tuple). eqb (home p (to t)) i) (storedTuples p ws) ts (h .held))
 
 -- any list with the same rows will do
-pub rows-held-same : (p : Partitioning) (ws : List ℕ) (rs rs′ : List Row) → RowsHeld p ws rs → Same sameRow rs rs′
-    → RowsHeld p ws rs′
+pub rows-held-same : (p : Partitioning) (ws : List ℕ) (rs rs′ : List Row) → RowStore p ws rs → Same sameRow rs rs′
+    → RowStore p ws rs′
 rows-held-same p ws rs rs′ h e = record {
   long = h .long;
   sound = h .sound;
@@ -58,14 +57,14 @@ rows-held-same p ws rs rs′ h e = record {
 }
 
 -- stores of zeros, of the plan's lengths, hold nothing
-pub tuples-held-none : (p : Partitioning) → TuplesHeld p (replicate (p .count * tupleRoom p) 0) []
+pub tuples-held-none : (p : Partitioning) → TupleStore p (replicate (p .count * tupleRoom p) 0) []
 tuples-held-none p = record {
   long = length-replicate (p .count * tupleRoom p) 0;
   sound = empty-tuples-sound p;
   held = λ t. ap (times sameTuple t) (empty-tuples-stored p);
 }
 
-pub rows-held-none : (p : Partitioning) → RowsHeld p (replicate (p .count * rowRoom p) 0) []
+pub rows-held-none : (p : Partitioning) → RowStore p (replicate (p .count * rowRoom p) 0) []
 unfolding rowsAt
 rows-held-none p = record {
   long = length-replicate (p .count * rowRoom p) 0;
@@ -96,6 +95,6 @@ join-from-same Inner ts ts′ us e = join-same us us ts ts′ (same-refl sameTup
 
 -- the side's own store holds ts, the other side's us, and the rows store their join
 pub record Wall (p : Partitioning) (side : Side) (own other rows : List ℕ) (ts us : List Tuple) : Type 0 where
-  pub mine : TuplesHeld p own ts
-  pub theirs : TuplesHeld p other us
-  pub made-rows : RowsHeld p rows (joinFrom side ts us)
+  pub mine : TupleStore p own ts
+  pub theirs : TupleStore p other us
+  pub made-rows : RowStore p rows (joinFrom side ts us)

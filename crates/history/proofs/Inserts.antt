@@ -35,13 +35,13 @@ use Rattle.insertion.proofs.Sites.{legal-is}
 use Rattle.join.specs.Changes.{ownStore, otherStore, insertNumber, Inserted}
 use Rattle.history.specs.Machine.{insert, Machine, put}
 use Rattle.history.proofs.Changes.{home-in-plan, join-made, untouched}
-use Rattle.history.proofs.Held.{TuplesHeld, RowsHeld, Wall, rows-held-same}
+use Rattle.history.proofs.Held.{TupleStore, RowStore, Wall, rows-held-same}
 use Rattle.history.proofs.Kept.{Kept, Done, ownTuples, otherTuples, withOwn, kept-from, kept-with}
 use Rattle.history.proofs.Kept.{told-accepted, done-refused}
 
 -- ---- the own store
 
-module _ (p : Partitioning) (t : Tuple) (ws : List ℕ) (ts : List Tuple) (h : TuplesHeld p ws ts)
+module _ (p : Partitioning) (t : Tuple) (ws : List ℕ) (ts : List Tuple) (h : TupleStore p ws ts)
     (within : home p (to t) < p .count) (legal : tupleNumber t ≡ 0) (free : full p t ws ≡ false) where
   -- the tuple's partition, and the tuple appended to it
   abbrev part : List ℕ
@@ -81,7 +81,7 @@ module _ (p : Partitioning) (t : Tuple) (ws : List ℕ) (ts : List Tuple) (h : T
       (rw (on-same (tupleRoom p) (p .count) at more ws (h .long) within more-long) more-tuples)
 
   -- the store holds the tuple and what it held
-  pub inserted-held : TuplesHeld p (inserted p t ws) (t ∷ ts)
+  pub inserted-held : TupleStore p (inserted p t ws) (t ∷ ts)
   inserted-held = record {
     long = on-length (tupleRoom p) (p .count) (home p (to t)) more ws (h .long) within more-long ∙ h .long;
     sound = sound-tuples-on p (home p (to t)) more ws (h .long) within more-long (h .sound) more-sound;
@@ -91,8 +91,8 @@ module _ (p : Partitioning) (t : Tuple) (ws : List ℕ) (ts : List Tuple) (h : T
 -- ---- the rows store
 
 -- grown by the rows `new`
-pub grown-held : (p : Partitioning) (ws ws′ : List ℕ) (rs new : List Row) → RowsHeld p ws rs → Grown p ws new ws′
-    → RowsHeld p ws′ (rs ++ new)
+pub grown-held : (p : Partitioning) (ws ws′ : List ℕ) (rs new : List Row) → RowStore p ws rs → Grown p ws new ws′
+    → RowStore p ws′ (rs ++ new)
 grown-held p ws ws′ rs new h g = record {
   long = g .long ∙ h .long;
   sound = g .sound;

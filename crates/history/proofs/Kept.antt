@@ -6,16 +6,16 @@ use mathlib.Core.Bool.{true}
 use mathlib.Core.List.{List}
 use mathlib.Core.Option.{some}
 use mathlib.Core.Path.{_≡_}
-use Prim.Native.Nat.{ℕ, _*_}
+use Prim.Native.Nat.{ℕ}
 use lib.Dec.{eqb}
 use lib.ListN.{length}
 use borrow.Author.Tests.{eq-eqb, ne-eqb}
-use Rattle.lists.proofs.Choice.{and-both, pick-true, pick-false}
+use Rattle.lists.proofs.Choice.{pick-true, pick-false}
 use Rattle.interval.specs.declared.tuple.Tuple.{Tuple}
-use Rattle.plan.specs.Plan.{planNumber, legalPlan}
+use Rattle.plan.specs.Plan.{planNumber}
 use Rattle.plan.specs.declared.Partitioning.{Partitioning}
-use Rattle.plan.proofs.Homes.{plan-legal-test}
-use Rattle.store.specs.Store.{tupleRoom, rowRoom, fitsTuples, fitsRows, soundTuples, soundRows}
+use Rattle.store.specs.Store.{fitsTuples, fitsRows, soundTuples, soundRows}
+use Rattle.store.proofs.StoreLoops.{given-tuples, given-rows}
 use Rattle.rows.specs.Join.{joinOf}
 use Rattle.rows.specs.declared.Side.{Side}
 use Rattle.rows.specs.declared.Side.the-variants.{Outer, Inner}
@@ -24,25 +24,17 @@ use Rattle.checks.proofs.Checks.{all-hold}
 use Rattle.join.specs.Changes.{ownStore, otherStore}
 use Rattle.history.specs.Machine.{Call, Machine, accept, told}
 use Rattle.history.specs.KeptCurrent.{Current, Owed}
-use Rattle.history.proofs.Held.{TuplesHeld, RowsHeld, Wall, tuples-held-at}
+use Rattle.history.proofs.Held.{TupleStore, RowStore, Wall, tuples-held-at}
 
 pub record Kept (m : Machine) (p : Partitioning) (s : Stores) : Type 0 where
   pub in-force : p ≡ m .plan
   pub places : length (p .lasts) ≡ 64
   pub legal : planNumber p ≡ 0
-  pub outer : TuplesHeld p (s .outer) (m .outer)
-  pub inner : TuplesHeld p (s .inner) (m .inner)
-  pub rows : RowsHeld p (s .rows) (joinOf (m .outer) (m .inner))
+  pub outer : TupleStore p (s .outer) (m .outer)
+  pub inner : TupleStore p (s .inner) (m .inner)
+  pub rows : RowStore p (s .rows) (joinOf (m .outer) (m .inner))
 
 -- ---- it says what the demand does
-
-long-tuples : (p : Partitioning) → planNumber p ≡ 0 → (n : ℕ) → n ≡ p .count * tupleRoom p → fitsTuples p n ≡ true
-unfolding fitsTuples
-long-tuples p l n e = and-both (legalPlan p) _ (plan-legal-test p l) (eq-eqb n (p .count * tupleRoom p) e)
-
-long-rows : (p : Partitioning) → planNumber p ≡ 0 → (n : ℕ) → n ≡ p .count * rowRoom p → fitsRows p n ≡ true
-unfolding fitsRows
-long-rows p l n e = and-both (legalPlan p) _ (plan-legal-test p l) (eq-eqb n (p .count * rowRoom p) e)
 
 pub kept-current-now : (m : Machine) (p : Partitioning) (s : Stores) → Kept m p s → Current m p s
 unfolding fitsAll sound
@@ -50,9 +42,9 @@ kept-current-now m p s k = record {
   in-force = k .in-force;
   long =
       all-hold (fitsTuples p (length (s .outer))) (fitsTuples p (length (s .inner))) (fitsRows p (length (s .rows)))
-      (long-tuples p (k .legal) (length (s .outer)) (k .outer .long))
-      (long-tuples p (k .legal) (length (s .inner)) (k .inner .long))
-      (long-rows p (k .legal) (length (s .rows)) (k .rows .long));
+      (given-tuples p (length (s .outer)) (k .legal, k .outer .long))
+      (given-tuples p (length (s .inner)) (k .legal, k .inner .long))
+      (given-rows p (length (s .rows)) (k .legal, k .rows .long));
   all-sound =
       all-hold (soundTuples p (s .outer)) (soundTuples p (s .inner)) (soundRows p (s .rows)) (k .outer .sound)
       (k .inner .sound) (k .rows .sound);

@@ -37,7 +37,7 @@ use Rattle.checks.specs.Stores.{Stores, storeNumber}
 use Rattle.checks.specs.declared.Answer.{Answer}
 use Rattle.join.specs.Repartitioning.{emptyStore, emptyWall, repartitionNumber, Repartitioned}
 use Rattle.history.specs.Machine.{repartition, Machine}
-use Rattle.history.proofs.Held.{TuplesHeld, RowsHeld}
+use Rattle.history.proofs.Held.{TupleStore, RowStore}
 use Rattle.history.proofs.Kept.{Kept, Done, told-accepted, done-refused}
 
 -- ---- the new plan
@@ -112,13 +112,13 @@ stored-none p ws e =
     (λ i l. tuples-none (tuplePart p ws i) (count-none (tupleRoom p) (p .count) ws e i l))
     ∙ gather-nil (λ i. []) (below (p .count)) (λ i. refl)
 
-held-none : (p : Partitioning) (ws : List ℕ) (ts : List Tuple) → TuplesHeld p ws ts
+held-none : (p : Partitioning) (ws : List ℕ) (ts : List Tuple) → TupleStore p ws ts
     → emptyStore (tupleRoom p) (p .count) ws ≡ true → Same sameTuple [] ts
 held-none p ws ts h e = rw (stored-none p ws e) at (h .held)
 
 -- under the new plan it holds what it held, and so does an empty rows store
-tuples-with-cuts : (p : Partitioning) (new : List Chronon) (ws : List ℕ) (ts : List Tuple) → TuplesHeld p ws ts
-    → emptyStore (tupleRoom p) (p .count) ws ≡ true → TuplesHeld (withCuts p new) ws ts
+tuples-with-cuts : (p : Partitioning) (new : List Chronon) (ws : List ℕ) (ts : List Tuple) → TupleStore p ws ts
+    → emptyStore (tupleRoom p) (p .count) ws ≡ true → TupleStore (withCuts p new) ws ts
 unfolding withCuts storedTuples soundTuplePart
 tuples-with-cuts p new ws ts h e = record {
   long = h .long;
@@ -131,8 +131,8 @@ tuples-with-cuts p new ws ts h e = record {
   held = h .held;
 }
 
-rows-with-cuts : (p : Partitioning) (new : List Chronon) (ws : List ℕ) (rs : List Row) → RowsHeld p ws rs
-    → emptyStore (rowRoom p) (p .count) ws ≡ true → Same sameRow [] rs → RowsHeld (withCuts p new) ws rs
+rows-with-cuts : (p : Partitioning) (new : List Chronon) (ws : List ℕ) (rs : List Row) → RowStore p ws rs
+    → emptyStore (rowRoom p) (p .count) ws ≡ true → Same sameRow [] rs → RowStore (withCuts p new) ws rs
 unfolding withCuts soundRowPart rowsAt
 rows-with-cuts p new ws rs h e q = record {
   long = h .long;

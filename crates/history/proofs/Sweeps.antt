@@ -16,12 +16,12 @@ use Rattle.checks.specs.Stores.{Stores}
 use Rattle.checks.specs.declared.Answer.{Answer}
 use Rattle.join.specs.Sweeps.{Swept}
 use Rattle.history.specs.Machine.{sweep, Machine}
-use Rattle.history.proofs.Held.{TuplesHeld, rows-held-same}
+use Rattle.history.proofs.Held.{TupleStore, rows-held-same}
 use Rattle.history.proofs.Kept.{Kept, Done, told-accepted, done-refused}
 
 -- the join of what two stores hold is the join of the lists
-joined-held : (p : Partitioning) (outer inner : List ℕ) (ds ss : List Tuple) → TuplesHeld p outer ds
-    → TuplesHeld p inner ss → Same sameRow (joined p outer inner) (joinOf ds ss)
+joined-held : (p : Partitioning) (outer inner : List ℕ) (ds ss : List Tuple) → TupleStore p outer ds
+    → TupleStore p inner ss → Same sameRow (joined p outer inner) (joinOf ds ss)
 unfolding joined
 joined-held p outer inner ds ss h k =
     join-same (storedTuples p outer) ds (storedTuples p inner) ss (h .held) (k .held)

@@ -16,7 +16,7 @@ use Rattle.checks.specs.Stores.{Stores, stores, storeNumber, Says, Counts}
 use Rattle.checks.specs.declared.Answer.{Answer}
 use Rattle.checks.proofs.Checks.{ready, fails-first, fails-second}
 use Rattle.join.specs.Repartitioning.{emptyStore, emptyWall, repartitionNumber, Repartitioned}
-use Rattle.join.proofs.ChangeCalls.{tuples-long, rows-long}
+use Rattle.store.proofs.StoreLoops.{tuples-given, rows-given}
 
 -- ---- past checks 1 to 5 the stores have the plan's lengths, whose rooms are r
 
@@ -25,13 +25,13 @@ module _ (p : Partitioning) (outer inner rows : List ℕ) (passed : storeNumber 
   wall = stores outer inner rows
 
   pub outer-fits : (r : ℕ) → r ≡ tupleRoom p → (length outer ≡ p .count * r) × (1 ≤ r)
-  outer-fits r e = (rw e (tuples-long p (length outer) (ready p wall passed .fits .outer)), omega (arith, e))
+  outer-fits r e = (rw e (tuples-given p (length outer) (ready p wall passed .fits .outer) .1), omega (arith, e))
 
   pub inner-fits : (r : ℕ) → r ≡ tupleRoom p → (length inner ≡ p .count * r) × (1 ≤ r)
-  inner-fits r e = (rw e (tuples-long p (length inner) (ready p wall passed .fits .inner)), omega (arith, e))
+  inner-fits r e = (rw e (tuples-given p (length inner) (ready p wall passed .fits .inner) .1), omega (arith, e))
 
   pub rows-fit : (r : ℕ) → r ≡ rowRoom p → (length rows ≡ p .count * r) × (1 ≤ r)
-  rows-fit r e = (rw e (rows-long p (length rows) (ready p wall passed .fits .rows)), omega (arith, e))
+  rows-fit r e = (rw e (rows-given p (length rows) (ready p wall passed .fits .rows) .1), omega (arith, e))
 
 -- ---- an empty wall: the answers o, i, t for the three stores, as far as they are asked
 

@@ -64,13 +64,21 @@ pub pick-ap : {A B : Type 0} (f : A → B) (b : Bool) (x y : A) → f (pick b x 
 pick-ap f true x y = refl
 pick-ap f false x y = refl
 
--- one check: it applies, it does not, and it gave 0
+-- one check: it applies, and it does not
 pub refuse-met : (b : Bool) (n : ℕ) → b ≡ true → refuseIf b n ≡ n
 refuse-met b n e = pick-true b n 0 e
 
 pub refuse-passed : (b : Bool) (n : ℕ) → b ≡ false → refuseIf b n ≡ 0
 refuse-passed b n e = pick-false b n 0 e
 
+-- the same for a function that made the test
+pub refusal-met : (n : ℕ) {answer b : Bool} → answer ≡ b → answer ≡ true → n ≡ refuseIf b n
+refusal-met n {answer} {b} e h = sym (refuse-met b n (sym e ∙ h))
+
+pub refusal-passed : (n : ℕ) {answer b : Bool} → answer ≡ b → answer ≡ false → 0 ≡ refuseIf b n
+refusal-passed n {answer} {b} e h = sym (refuse-passed b n (sym e ∙ h))
+
+-- it gave 0
 pub refuse-none : (b : Bool) (n : ℕ) → refuseIf b (suc n) ≡ 0 → b ≡ false
 refuse-none true n e = absurd (omega arith)
 refuse-none false n e = refl

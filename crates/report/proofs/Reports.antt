@@ -13,8 +13,8 @@ use Rattle.lists.proofs.Choice.{first-none, refuse-none, refuse-met, refuse-pas
 use Rattle.lists.proofs.Choice.{answer-here, answer-next, answer-last}
 use Rattle.plan.specs.Plan.{planNumber}
 use Rattle.plan.specs.declared.Partitioning.{Partitioning}
-use Rattle.store.specs.Store.{rowRoom, fitsRows}
-use Rattle.store.proofs.StoreLoops.{fit-is}
+use Rattle.store.specs.Store.{fitsRows}
+use Rattle.store.proofs.StoreLoops.{rows-given}
 use Rattle.checks.specs.Stores.{rowsLength, rowsUnsound}
 use Rattle.checks.proofs.Checks.{rows-fit, rows-sound}
 use Rattle.report.specs.Text.{rowCount, textOf}
@@ -53,7 +53,7 @@ module _ (p : Partitioning) (rows : List ℕ) (room : ℕ) where
         unfolding fitsRows
         sound-store = record {
           legal = l;
-          long = fit-is p (length rows) (rowRoom p) (rows-fit p (length rows) f) .1;
+          long = rows-given p (length rows) (rows-fit p (length rows) f) .1;
           sound = rows-sound p rows s;
         }
 

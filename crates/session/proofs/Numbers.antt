@@ -9,11 +9,11 @@ use mathlib.Core.Bool.{Bool, true, false, not, _&&_, _||_, false≢true}
 use mathlib.Core.List.{List, [], _∷_}
 use mathlib.Core.Logic.{⊎-elim}
 use mathlib.Core.Path.{_≡_, refl, _∙_, ap}
-use Prim.Native.Nat.{ℕ, zero, suc, _*_, _≤_}
+use Prim.Native.Nat.{ℕ, zero, suc, _≤_}
 use native.Mathlib.Omega.{arith}
 use lib.Dec.{ltb, eqb}
 use lib.ListN.{length, take, length-take}
-use borrow.Author.Tests.{eq-eqb, eqb-true}
+use borrow.Author.Tests.{eqb-true}
 use Rattle.lists.specs.Choice.{pick, refuseIf, firstOf}
 use Rattle.lists.specs.Members.{all, any}
 use Rattle.lists.proofs.Choice.{bool-cases, and-left, and-right, and-both, or-right, first-here, pick-true, pick-false}
@@ -23,10 +23,9 @@ use Rattle.interval.specs.Tuple.{itemEnd, tupleNumber, itemCheck, validCheck, s
 use Rattle.interval.specs.declared.time.Chronon.{Chronon}
 use Rattle.interval.specs.declared.time.Interval.{Interval}
 use Rattle.interval.specs.declared.tuple.Tuple.{Tuple}
-use Rattle.plan.specs.Plan.{legalPlan}
 use Rattle.plan.specs.declared.Partitioning.{Partitioning}
-use Rattle.plan.proofs.Homes.{plan-legal-test}
-use Rattle.store.specs.Store.{tupleRoom, rowRoom, fitsTuples, fitsRows, storedTuples, storedRows}
+use Rattle.store.specs.Store.{fitsTuples, fitsRows, storedTuples, storedRows}
+use Rattle.store.proofs.StoreLoops.{given-tuples, given-rows}
 use Rattle.rows.specs.declared.Side.{Side}
 use Rattle.rows.specs.declared.Side.the-variants.{Outer, Inner}
 use Rattle.checks.specs.Stores.{Stores, sound, tuplesLength, rowsLength, lengthsNumber, openNumber, storeNumber}
@@ -54,14 +53,10 @@ module _ (s : Session) (S : Stores) (g : Good s) (done : s .complete ≡ true) (
   abbrev wall : Stores
   wall = wallOf s S
 
-  -- the plan is legal, and a store of the plan's length has it
-  fit : (n long : ℕ) → n ≡ long → (legalPlan (planOf s) && eqb n long) ≡ true
-  fit n long e = and-both (legalPlan (planOf s)) _ (plan-legal-test (planOf s) (plan-legal s g done)) (eq-eqb n long e)
-
   tuples-fit : (ws : List ℕ) → wallTupleWords ≤ length ws
       → fitsTuples (planOf s) (length (take (usedTuples s) ws)) ≡ true
-  unfolding fitsTuples
-  tuples-fit ws l = fit _ (s .lanes * tupleRoom (planOf s)) (omega (arith, length-take (usedTuples s) ws, g .most))
+  tuples-fit ws l =
+      given-tuples (planOf s) _ (plan-legal s g done, omega (arith, length-take (usedTuples s) ws, g .most))
 
   outer-fits : fitsTuples (planOf s) (length (wall .outer)) ≡ true
   outer-fits = tuples-fit (S .outer) (y .outer)
@@ -70,10 +65,8 @@ module _ (s : Session) (S : Stores) (g : Good s) (done : s .complete ≡ true) (
   inner-fits = tuples-fit (S .inner) (y .inner)
 
   rows-fit : fitsRows (planOf s) (length (wall .rows)) ≡ true
-  unfolding fitsRows
   rows-fit =
-      fit (length (wall .rows)) (s .lanes * rowRoom (planOf s))
-      (omega (arith, length-take (usedRows s) (S .rows), g .most, y .rows))
+      given-rows (planOf s) _ (plan-legal s g done, omega (arith, length-take (usedRows s) (S .rows), g .most, y .rows))
 
   pub wall-open : openNumber (planOf s) wall ≡ 0
   unfolding lengthsNumber tuplesLength rowsLength firstOf

@@ -11,18 +11,18 @@ use lib.ListN.{length, take, drop}
 use lib.Dec.{eqb, lit<}
 use mir.Syntax.{w64}
 use mir.Val.{Fits}
-use borrow.Author.Tests.{eqb-true}
+use borrow.Author.Tests.{eqb-true, eq-eqb}
 use borrow.Rule.Slice.PartMut.{putMid}
 use Rattle.lists.specs.Members.{all, below, upFrom}
 use Rattle.lists.specs.Words.{partAt, onPart}
 use Rattle.lists.proofs.Parts.{length-part}
-use Rattle.lists.proofs.Choice.{and-left, and-right}
+use Rattle.lists.proofs.Choice.{and-left, and-right, and-both}
 use Rattle.lists.proofs.Below.{up-next, up-end}
 use Rattle.plan.specs.Plan.{planNumber, legalPlan}
 use Rattle.plan.specs.declared.Partitioning.{Partitioning}
-use Rattle.plan.proofs.Homes.{legal-plan, test-plan-legal}
+use Rattle.plan.proofs.Homes.{legal-plan, plan-legal-test, test-plan-legal}
 use Rattle.part.specs.Part.{roomOf, counted, appended}
-use Rattle.store.specs.Store.{tupleRoom, rowRoom, onPartition}
+use Rattle.store.specs.Store.{tupleRoom, rowRoom, fitsTuples, fitsRows, onPartition}
 
 -- ---- a test of every partition: those from i on decide
 
@@ -60,13 +60,36 @@ tuples-fit p h = length-fits (p .count) _ (legal-plan p h .most) (omega (arith, 
 pub rows-fit : (p : Partitioning) → planNumber p ≡ 0 → Fits w64 (p .count * rowRoom p)
 rows-fit p h = length-fits (p .count) _ (legal-plan p h .most) (omega (arith, legal-plan p h .rows-most))
 
--- a length that fits: the plan is legal, and the length is what it gives
+-- a length fits exactly if the plan is legal and the length is what it gives
+abbrev Given : Partitioning → ℕ → ℕ → Type 0
+Given p n room = (planNumber p ≡ 0) × (n ≡ p .count * room)
+
 module _ (p : Partitioning) (n room : ℕ) where
-  pub fit-is : (legalPlan p && eqb n (p .count * room)) ≡ true → (planNumber p ≡ 0) × (n ≡ p .count * room)
-  fit-is h = (
+  fit-given : (legalPlan p && eqb n (p .count * room)) ≡ true → Given p n room
+  fit-given h = (
     test-plan-legal p (and-left (legalPlan p) (eqb n (p .count * room)) h),
     eqb-true n (p .count * room) (and-right (legalPlan p) (eqb n (p .count * room)) h),
   )
+
+  given-fit : Given p n room → (legalPlan p && eqb n (p .count * room)) ≡ true
+  given-fit g = and-both (legalPlan p) _ (plan-legal-test p (g .0)) (eq-eqb n (p .count * room) (g .1))
+
+module _ (p : Partitioning) (n : ℕ) where
+  pub tuples-given : fitsTuples p n ≡ true → Given p n (tupleRoom p)
+  unfolding fitsTuples
+  tuples-given h = fit-given p n (tupleRoom p) h
+
+  pub given-tuples : Given p n (tupleRoom p) → fitsTuples p n ≡ true
+  unfolding fitsTuples
+  given-tuples g = given-fit p n (tupleRoom p) g
+
+  pub rows-given : fitsRows p n ≡ true → Given p n (rowRoom p)
+  unfolding fitsRows
+  rows-given h = fit-given p n (rowRoom p) h
+
+  pub given-rows : Given p n (rowRoom p) → fitsRows p n ≡ true
+  unfolding fitsRows
+  given-rows g = given-fit p n (rowRoom p) g
 
 -- ---- a partition lent to a writer, and back
 

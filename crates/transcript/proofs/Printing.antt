@@ -24,7 +24,7 @@ use Rattle.rows.specs.Join.{joinOf}
 use Rattle.rows.specs.declared.Side.the-variants.{Outer}
 use Rattle.rows.proofs.Joins.{join-outer-more, join-same, join-empty-left}
 use Rattle.rows.proofs.JoinsStored.{made-within}
-use Rattle.history.proofs.Held.{TuplesHeld, RowsHeld}
+use Rattle.history.proofs.Held.{TupleStore, RowStore}
 use Rattle.report.specs.Text.{rowLine, countLine, partitionText, partitionsText, textOf, rowCount}
 use Rattle.report.specs.Report.{SortedStore}
 use Rattle.report.proofs.Orders.{sorted-unique}
@@ -33,7 +33,7 @@ use Rattle.transcript.proofs.Sorting.{sort-same, sort-sorted}
 
 -- ---- every row of the join belongs to one of the plan's partitions
 
-pub join-within : (p : Partitioning) (ws : List ℕ) (ds ss : List Tuple) → TuplesHeld p ws ss
+pub join-within : (p : Partitioning) (ws : List ℕ) (ds ss : List Tuple) → TupleStore p ws ss
     → all (λ r. ltb (home p (rowTo r)) (p .count)) (joinOf ds ss) ≡ true
 join-within p ws ds ss h =
     sym
@@ -49,7 +49,7 @@ join-within p ws ds ss h =
 
 -- ---- the text
 
-module _ (p : Partitioning) (rows rows′ : List ℕ) (rs : List Row) (h : RowsHeld p rows rs)
+module _ (p : Partitioning) (rows rows′ : List ℕ) (rs : List Row) (h : RowStore p rows rs)
     (here : all (λ r. ltb (home p (rowTo r)) (p .count)) rs ≡ true) (s : SortedStore p rows rows′) where
   -- each lane holds those of the rows that belong to it, in order
   lane-is : (i : ℕ) → i < p .count → rowsIn (rowPart p rows′ i) ≡ sortRows (rowsAt p i rs)
