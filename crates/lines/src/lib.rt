@@ -16,6 +16,9 @@ pub const LINE_LENGTH: usize = 80;
 // The most digits of a number.
 const MOST_DIGITS: usize = 8;
 
+// The number of a line that is not of the form.
+pub const MALFORMED: u64 = 15;
+
 // The four words of a change: which side, in or out.
 pub enum Word {
     DrawIn,

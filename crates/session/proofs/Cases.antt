@@ -22,7 +22,8 @@ use Rattle.join.specs.Changes.{insertNumber, deleteNumber}
 use Rattle.lines.specs.declared.Word.the-variants.{DrawIn, SpotOut}
 use Rattle.lines.specs.declared.Line.{Line}
 use Rattle.lines.specs.declared.Line.the-variants.{Lane, Change, Malformed}
-use Rattle.session.specs.Session.{fresh, badLane, laneCheck, laneNumber, changeNumber, stepNumber, sessionAfter}
+use Rattle.session.specs.Session.{fresh, badLane, laneCheck}
+use Rattle.session.specs.Session.{laneNumber, changeLineNumber, stepNumber, sessionAfter}
 use Rattle.session.specs.declared.Session.{Session}
 
 -- the numbers that lines get, one after the other
@@ -77,7 +78,8 @@ lanes =
     ∷ []))
 
 lanes-hold : Cases lanes
-unfolding lanes Cases numbersOf badLane laneCheck laneNumber changeNumber sessionAfter firstOf cutsOf cover planNumber
+unfolding lanes Cases numbersOf badLane laneCheck
+    laneNumber changeLineNumber sessionAfter firstOf cutsOf cover planNumber
     legalPlan fitsTuples fitsRows tuplesLength rowsLength lengthsNumber
 lanes-hold = (refl, (refl, (refl, tt)))
 
@@ -89,7 +91,7 @@ changes : List (Stores × List Line × List ℕ)
 changes = (blankOf 1, some, 0 ∷ (0 ∷ (11 ∷ (7 ∷ (8 ∷ []))))) ∷ []
 
 changes-hold : Cases changes
-unfolding changes Cases numbersOf badLane laneCheck laneNumber changeNumber sessionAfter firstOf cutsOf cover
+unfolding changes Cases numbersOf badLane laneCheck laneNumber changeLineNumber sessionAfter firstOf cutsOf cover
     planNumber legalPlan home homeOf fitsTuples fitsRows tuplesLength rowsLength lengthsNumber counted recordsIn
     tuplesIn rowsIn soundPart soundTuplePart soundRowPart soundTuples soundRows tuplesUnsound rowsUnsound storeNumber
     labelCheck itemCheck validCheck tupleNumber insertNumber deleteNumber overfull made madeWith storedTuples rowsAt

@@ -41,7 +41,8 @@ use Rattle.lines.specs.declared.Line.{Line}
 use Rattle.lines.specs.declared.Line.the-variants.{Lane, Change, Malformed}
 use Rattle.lines.proofs.Printed.{line-change-bounds}
 use Rattle.session.specs.Session.{planOf, withLane, usedTuples, usedRows, wallTupleWords, EightPartitions}
-use Rattle.session.specs.Session.{wallOf, badLane, laneCheck, laneNumber, callNumber, changeNumber, stepNumber}
+use Rattle.session.specs.Session.{wallOf, badLane, laneCheck}
+use Rattle.session.specs.Session.{laneNumber, callNumber, changeLineNumber, stepNumber}
 use Rattle.session.specs.declared.Session.{Session}
 use Rattle.session.proofs.Lanes.{lane-passed}
 use Rattle.session.proofs.Reached.{Reached, Good, good-with, reached-good, plan-legal}
@@ -204,8 +205,8 @@ module _ (ok : ℕ → Bool) (more : (n : ℕ) → among changeNumbers n ≡ tru
 
   -- a change, where checks 1 to 5 of a complete plan do
   change-by : (s : Session) (w : Word) (t : Tuple) (S : Stores) → labelCheck (t .label) ≡ 0
-      → (s .complete ≡ true → ok (storeNumber (planOf s) (wallOf s S)) ≡ true) → ok (changeNumber s w t S) ≡ true
-  unfolding changeNumber
+      → (s .complete ≡ true → ok (storeNumber (planOf s) (wallOf s S)) ≡ true) → ok (changeLineNumber s w t S) ≡ true
+  unfolding changeLineNumber
   change-by s w t S l e =
       guarded-ok ok (s .complete) 15 (callNumber w (planOf s) t (wallOf s S)) (more 0 refl) (more 16 refl)
       (λ c. call-met (planOf s) t (wallOf s S) l (e c) w)
@@ -213,7 +214,7 @@ module _ (ok : ℕ → Bool) (more : (n : ℕ) → among changeNumbers n ≡ tru
 module _ (s : Session) (w : Word) (t : Tuple) (S : Stores) (g : Good s) (y : EightPartitions S)
     (l : labelCheck (t .label) ≡ 0) where
   -- on any wall: 5 too
-  pub change-met : among (5 ∷ changeNumbers) (changeNumber s w t S) ≡ true
+  pub change-met : among (5 ∷ changeNumbers) (changeLineNumber s w t S) ≡ true
   change-met =
       change-by (among (5 ∷ changeNumbers)) (λ n h. or-right (eqb n 5) (among changeNumbers n) h) s w t S l
       (λ c.
@@ -224,7 +225,7 @@ module _ (s : Session) (w : Word) (t : Tuple) (S : Stores) (g : Good s) (y : Eig
 
   -- on a sound wall
   pub change-sound : (s .complete ≡ true → sound (planOf s) (wallOf s S) ≡ true)
-      → among changeNumbers (changeNumber s w t S) ≡ true
+      → among changeNumbers (changeLineNumber s w t S) ≡ true
   unfolding firstOf
   change-sound h =
       change-by (among changeNumbers) (λ n q. q) s w t S l
@@ -249,7 +250,7 @@ pub step-met : (s : Session) (line : Line) (S : Stores) → Good s → EightPart
     → among stepNumbers (stepNumber s line S) ≡ true
 step-met s (Lane m) S g y l = among-more laneNumbers stepNumbers refl (laneNumber s m S) (lane-met s m S g y)
 step-met s (Change w t) S g y l =
-    among-more (5 ∷ changeNumbers) stepNumbers refl (changeNumber s w t S) (change-met s w t S g y l)
+    among-more (5 ∷ changeNumbers) stepNumbers refl (changeLineNumber s w t S) (change-met s w t S g y l)
 step-met s Malformed S g y l = refl
 
 -- ---- every line that a session from `fresh` reads

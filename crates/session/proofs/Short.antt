@@ -18,7 +18,7 @@ use Rattle.checks.proofs.Checks.{lengths-are}
 use Rattle.join.specs.Changes.{insertNumber, deleteNumber}
 use Rattle.lines.specs.declared.Word.{Word}
 use Rattle.lines.specs.declared.Word.the-variants.{DrawIn, DrawOut, SpotIn, SpotOut}
-use Rattle.session.specs.Session.{planOf, usedTuples, usedRows, wallOf, callNumber, changeNumber}
+use Rattle.session.specs.Session.{planOf, usedTuples, usedRows, wallOf, callNumber, changeLineNumber}
 use Rattle.session.specs.declared.Session.{Session}
 use Rattle.session.proofs.Reached.{Good, plan-legal}
 
@@ -69,6 +69,6 @@ module _ (s : Session) (S : Stores) (g : Good s) (done : s .complete ≡ true) w
   short-call SpotIn t h = rw (short-open h)
   short-call SpotOut t h = rw (short-open h)
 
-  pub short-change : (w : Word) (t : Tuple) → Short s S → changeNumber s w t S ≡ 4
-  unfolding changeNumber firstOf
+  pub short-change : (w : Word) (t : Tuple) → Short s S → changeLineNumber s w t S ≡ 4
+  unfolding changeLineNumber firstOf
   short-change w t h = rw (short-call w t h, done)

@@ -14,12 +14,16 @@ use Rattle.lists.proofs.Choice.{refuse-passed, answer-next, answer-last}
 use Rattle.interval.specs.declared.tuple.Tuple.{Tuple}
 use Rattle.plan.specs.declared.Partitioning.{Partitioning}
 use Rattle.plan.proofs.Homes.{le-or-lt}
+use Rattle.rows.specs.declared.Side.{Side}
 use Rattle.checks.specs.Stores.{Stores, stores}
 use Rattle.checks.specs.declared.Answer.{Answer}
 use Rattle.join.specs.Opening.{Opened}
+use Rattle.join.specs.Changes.{Changed}
+use Rattle.join.specs.declared.Kind.{Kind}
 use Rattle.lines.specs.declared.Word.{Word}
 use Rattle.lines.specs.declared.Word.the-variants.{DrawIn, DrawOut, SpotIn, SpotOut}
-use Rattle.session.specs.Session.{planOf, usedTuples, usedRows, wallOf, restOf, callNumber, Called, changeNumber}
+use Rattle.session.specs.Session.{planOf, usedTuples, usedRows, wallOf, restOf}
+use Rattle.session.specs.Session.{kindOf, sideOf, callNumber, Called, changeLineNumber}
 use Rattle.session.specs.Session.{WallOpening, WallChanging}
 use Rattle.session.specs.declared.Session.{Session}
 
@@ -84,10 +88,11 @@ called-refused DrawOut p t S S′ a h ne = h .refused ne .kept
 called-refused SpotIn p t S S′ a h ne = h .refused ne .kept
 called-refused SpotOut p t S S′ a h ne = h .refused ne .kept
 
--- the call of an equal word
-pub called-as : (w v : Word) (p : Partitioning) (t : Tuple) (S S′ : Stores) (a : Answer) → w ≡ v → Called v p t S S′ a
-    → Called w p t S S′ a
-called-as w v p t S S′ a e h = subst (λ (u : Word). Called u p t S S′ a) (sym e) h
+-- a call of the word's kind and side
+pub called-as : (w : Word) (k : Kind) (x : Side) (p : Partitioning) (t : Tuple) (S S′ : Stores) (a : Answer)
+    → k ≡ kindOf w → x ≡ sideOf w → Changed k p x t S S′ a → Called w p t S S′ a
+called-as w k x p t S S′ a e f h =
+    subst (λ (v : Side). Changed (kindOf w) p v t S S′ a) f (subst (λ (v : Kind). Changed v p x t S S′ a) e h)
 
 -- ---- the three stores
 
@@ -148,7 +153,7 @@ module _ (s : Session) (a b c : ℕ) (o i r : List ℕ) (x : a ≡ min (usedTupl
 
     pub wall-changing : (w : Word) (p : Partitioning) (t : Tuple) (n : Answer) → s .complete ≡ true → p ≡ planOf s
         → Called w p t lent (stores o′ i′ r′) n → WallChanging s w t (stores o i r) after (n .number)
-    unfolding changeNumber
+    unfolding changeLineNumber
     wall-changing w p t n d e h =
         let g : Called w (planOf s) t (wallOf s (stores o i r)) (wallOf s after) n =
         subst (λ (v : Stores). Called w (planOf s) t v (wallOf s after) n) lent-wall
@@ -164,7 +169,7 @@ module _ (s : Session) (a b c : ℕ) (o i r : List ℕ) (x : a ≡ min (usedTupl
 
 -- a change before the plan is complete
 pub change-early : (s : Session) (w : Word) (t : Tuple) (S : Stores) → s .complete ≡ false → WallChanging s w t S S 16
-unfolding changeNumber firstOf
+unfolding changeLineNumber firstOf
 change-early s w t S e = record {
   number = rw e;
   refused = λ ne. refl;

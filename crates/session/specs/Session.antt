@@ -16,11 +16,15 @@ use Rattle.plan.specs.Plan.{mostPartitions, numbers}
 use Rattle.plan.specs.declared.Partitioning.{Partitioning}
 use Rattle.part.specs.Part.{roomOf}
 use Rattle.store.specs.Store.{tupleRoom, rowRoom}
+use Rattle.rows.specs.declared.Side.{Side}
 use Rattle.rows.specs.declared.Side.the-variants.{Outer, Inner}
 use Rattle.checks.specs.Stores.{Stores, stores, openNumber}
 use Rattle.checks.specs.declared.Answer.{Answer}
 use Rattle.join.specs.Opening.{blank}
-use Rattle.join.specs.Changes.{insertNumber, Inserted, deleteNumber, Deleted}
+use Rattle.join.specs.Changes.{insertNumber, deleteNumber, Changed}
+use Rattle.join.specs.declared.Kind.{Kind}
+use Rattle.join.specs.declared.Kind.the-variants.{Insert, Delete}
+use Rattle.lines.specs.Line.{lineNumber}
 use Rattle.lines.specs.declared.Word.{Word}
 use Rattle.lines.specs.declared.Word.the-variants.{DrawIn, DrawOut, SpotIn, SpotOut}
 use Rattle.lines.specs.declared.Line.{Line}
@@ -122,29 +126,43 @@ laneNumber s m S =
 
 -- ---- a change: the call that its word asks for
 
+-- `in` inserts, `out` withdraws
+abbrev pub kindOf : Word → Kind
+kindOf DrawIn = Insert
+kindOf DrawOut = Delete
+kindOf SpotIn = Insert
+kindOf SpotOut = Delete
+
+-- `draw` is the side of drawings, `spot` that of spots
+abbrev pub sideOf : Word → Side
+sideOf DrawIn = Outer
+sideOf DrawOut = Outer
+sideOf SpotIn = Inner
+sideOf SpotOut = Inner
+
+-- the number of a call of that kind
+abbrev pub numberOf : Kind → Partitioning → Side → Tuple → Stores → ℕ
+numberOf Insert p side t S = insertNumber p side t S
+numberOf Delete p side t S = deleteNumber p side t S
+
 abbrev pub callNumber : Word → Partitioning → Tuple → Stores → ℕ
-callNumber DrawIn p t S = insertNumber p Outer t S
-callNumber DrawOut p t S = deleteNumber p Outer t S
-callNumber SpotIn p t S = insertNumber p Inner t S
-callNumber SpotOut p t S = deleteNumber p Inner t S
+callNumber w p t S = numberOf (kindOf w) p (sideOf w) t S
 
 abbrev pub Called : Word → Partitioning → Tuple → Stores → Stores → Answer → Type 0
-Called DrawIn p t S S′ a = Inserted p Outer t S S′ a
-Called DrawOut p t S S′ a = Deleted p Outer t S S′ a
-Called SpotIn p t S S′ a = Inserted p Inner t S S′ a
-Called SpotOut p t S S′ a = Deleted p Inner t S S′ a
+Called w p t S S′ a = Changed (kindOf w) p (sideOf w) t S S′ a
 
 -- 16 for "a change before the plan is complete", which comes before all others; then the call's own number
-unfoldable pub changeNumber : Session → Word → Tuple → Stores → ℕ
-changeNumber s w t S =
+unfoldable pub changeLineNumber : Session → Word → Tuple → Stores → ℕ
+changeLineNumber s w t S =
     firstOf (refuseIf (not (s .complete)) 16 ∷ (callNumber w (planOf s) t (wallOf s S) ∷ []))
 
 -- ---- a line: its number, and the session after it
 
+-- a line that is not of the form has a number of its own, whatever the session
 abbrev pub stepNumber : Session → Line → Stores → ℕ
 stepNumber s (Lane m) S = laneNumber s m S
-stepNumber s (Change w t) S = changeNumber s w t S
-stepNumber s Malformed S = 15
+stepNumber s (Change w t) S = changeLineNumber s w t S
+stepNumber s Malformed S = lineNumber Malformed
 
 -- the session that a line makes where it is accepted
 abbrev pub sessionWith : Session → Line → Session
@@ -195,6 +213,6 @@ pub record WallOpening (s : Session) (S S′ : Stores) (n : ℕ) : Type 0 where
   pub accepted : n ≡ 0 → WallOpened s S S′
 
 pub record WallChanging (s : Session) (w : Word) (t : Tuple) (S S′ : Stores) (n : ℕ) : Type 0 where
-  pub number : n ≡ changeNumber s w t S
+  pub number : n ≡ changeLineNumber s w t S
   pub refused : (n ≡ 0 → ⊥) → S′ ≡ S
   pub accepted : n ≡ 0 → WallChanged s w t S S′

@@ -9,13 +9,13 @@ ghost use Rattle.checks.specs.Stores.{stores};
 ghost use Rattle.lines.specs.Line.{lineOf};
 ghost use Rattle.lines.specs.declared.Line.the-variants.{Lane};
 ghost use Rattle.session.specs.Session.{fresh, planOf, grown, usedPartitions, usedTuples, usedRows, laneCheck};
-ghost use Rattle.session.specs.Session.{Called, WallOpening, WallChanging, SteppedBy};
+ghost use Rattle.session.specs.Session.{kindOf, sideOf, WallOpening, WallChanging, SteppedBy};
 use interval::time::CALENDAR_END;
 use interval::time::Chronon;
 use interval::tuple::ROW_WIDTH;
 use interval::tuple::TUPLE_WIDTH;
 use interval::tuple::Tuple;
-use join::Answer;
+use join::Kind;
 use lines::Line;
 use lines::Word;
 use plan::PLACES;
@@ -101,7 +101,7 @@ fn within(words: usize, len: usize) -> usize
 }
 
 // The words in use of a tuple store of `len` words: those of the lanes, or all where there are fewer.
-pub fn used_tuples(s: Session, len: usize) -> usize
+fn used_tuples(s: Session, len: usize) -> usize
     ensures { λ r. ⌜ r ≡ min (usedTuples s) len ⌝ }
 {
     within(used_partitions(s) * TUPLE_ROOM, len)
@@ -208,24 +208,27 @@ fn take_lane(
     }
 }
 
-// The call that a change's word asks for: `draw` is the outer side, `spot` the inner, `in` inserts, `out` deletes.
-fn call(
-    p: Partitioning,
-    word: Word,
-    t: Tuple,
-    outer: &mut [u64],
-    inner: &mut [u64],
-    rows: &mut [u64],
-) -> Answer
-    ensures { λ r. ⌜ Called word p t
-        (stores (now (outer .entry)) (now (inner .entry)) (now (rows .entry)))
-        (stores (now (outer .exit)) (now (inner .exit)) (now (rows .exit))) r ⌝ }
+// The kind of change that a word asks for: `in` inserts, `out` deletes.
+fn kind_of(word: Word) -> Kind
+    ensures { λ r. ⌜ r ≡ kindOf word ⌝ }
 {
     match word {
-        Word::DrawIn => join::insert(p, Side::Outer, t, outer, inner, rows),
-        Word::DrawOut => join::delete(p, Side::Outer, t, outer, inner, rows),
-        Word::SpotIn => join::insert(p, Side::Inner, t, outer, inner, rows),
-        Word::SpotOut => join::delete(p, Side::Inner, t, outer, inner, rows),
+        Word::DrawIn => Kind::Insert,
+        Word::DrawOut => Kind::Delete,
+        Word::SpotIn => Kind::Insert,
+        Word::SpotOut => Kind::Delete,
+    }
+}
+
+// The side that it concerns: `draw` the outer, `spot` the inner.
+fn side_of(word: Word) -> Side
+    ensures { λ r. ⌜ r ≡ sideOf word ⌝ }
+{
+    match word {
+        Word::DrawIn => Side::Outer,
+        Word::DrawOut => Side::Outer,
+        Word::SpotIn => Side::Inner,
+        Word::SpotOut => Side::Inner,
     }
 }
 
@@ -245,12 +248,22 @@ fn change_on(
     if !s.complete {
         return OUT_OF_TURN;
     }
+    let kind = kind_of(word);
+    let side = side_of(word);
     let p = plan_of(s);
     let a = used_tuples(s, outer.len());
     let b = used_tuples(s, inner.len());
     let c = used_rows(s, rows.len());
-    let answer = call(p, word, t, &mut outer[..a], &mut inner[..b], &mut rows[..c]);
-    answer.number
+    let done = join::change(
+        kind,
+        p,
+        side,
+        t,
+        &mut outer[..a],
+        &mut inner[..b],
+        &mut rows[..c],
+    );
+    done.number
 }
 
 // The work on a line that was read.
@@ -273,7 +286,7 @@ pub fn step_value(
         }
         Line::Malformed => Stepped {
             session: s,
-            number: 15,
+            number: lines::MALFORMED,
         },
     }
 }

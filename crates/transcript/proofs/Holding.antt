@@ -31,7 +31,7 @@ use Rattle.lines.specs.declared.Word.the-variants.{DrawIn, DrawOut, SpotIn, Spo
 use Rattle.lines.specs.declared.Line.{Line}
 use Rattle.lines.specs.declared.Line.the-variants.{Lane, Change, Malformed}
 use Rattle.session.specs.Session.{fresh, planOf, withLane, wallOf, laneCheck, laneNumber, Called}
-use Rattle.session.specs.Session.{changeNumber, WallChanged, LaneTaken, SteppedBy}
+use Rattle.session.specs.Session.{changeLineNumber, WallChanged, LaneTaken, SteppedBy}
 use Rattle.session.specs.declared.Session.{Session}
 use Rattle.session.specs.declared.Stepped.{Stepped}
 use Rattle.session.proofs.Lanes.{lane-passed}
@@ -86,8 +86,8 @@ owed-frame SpotOut t p p′ s s′ n after o = o
 
 module _ (s : Session) (w : Word) (t : Tuple) (S S′ : Stores) (ts : List Told) (h : Holding ts s S) where
   -- an accepted one comes after the plan is complete
-  pub change-complete : changeNumber s w t S ≡ 0 → s .complete ≡ true
-  unfolding changeNumber
+  pub change-complete : changeLineNumber s w t S ≡ 0 → s .complete ≡ true
+  unfolding changeLineNumber
   change-complete z =
       not-false (s .complete)
       (refuse-none (not (s .complete)) 15 (first-none (refuseIf (not (s .complete)) 16) _ z .0))

@@ -19,7 +19,7 @@ use Rattle.lines.specs.Line.{lineOf}
 use Rattle.lines.specs.declared.Word.{Word}
 use Rattle.lines.specs.declared.Line.{Line}
 use Rattle.lines.specs.declared.Line.the-variants.{Lane, Change, Malformed}
-use Rattle.session.specs.Session.{EightPartitions, planOf, wallOf, laneNumber, changeNumber, stepNumber}
+use Rattle.session.specs.Session.{EightPartitions, planOf, wallOf, laneNumber, changeLineNumber, stepNumber}
 use Rattle.session.specs.declared.Session.{Session}
 use Rattle.session.proofs.Reached.{Good, reached-good}
 use Rattle.session.proofs.Lengths.{reached-long}
@@ -44,15 +44,15 @@ module _ (s : Session) (w : Word) (t : Tuple) (S : Stores) (ts : List Told) (g :
   wall-passes c = stores-are (planOf s) (wallOf s S) ∙ rw (wall-open s S g c y, wall-sound c)
 
   -- never 12
-  change-not12 : not12 (changeNumber s w t S) ≡ true
-  unfolding changeNumber
+  change-not12 : not12 (changeLineNumber s w t S) ≡ true
+  unfolding changeLineNumber
   change-not12 =
       guarded-ok not12 (s .complete) 15 _ refl refl
       (λ c. let k = h .late c in call-not12 (k .0) (planOf s) t (wallOf s S) (k .2) (wall-passes c) w)
 
-  change-is : isMet (changeNumber s w t S) ≡ true
+  change-is : isMet (changeLineNumber s w t S) ≡ true
   change-is =
-      let n = changeNumber s w t S in
+      let n = changeLineNumber s w t S in
       let e = among-more changeNumbers (12 ∷ numbersMet) refl n (change-sound s w t S g y l wall-sound) in
       rw (not-true (eqb n 12) change-not12) at e
 

@@ -4,7 +4,7 @@
 use borrow.Author.Tests.{not-true, not-false}
 use Rattle.checks.specs.Stores.{stores}
 use Rattle.session.specs.Session.{usedTuples, usedRows}
-use Rattle.session.proofs.Walls.{lent-long, change-early, wall-changing}
+use Rattle.session.proofs.Walls.{lent-long, called-as, change-early, wall-changing}
 use borrow.Author.Needs.{needs}
 use Rattle.session.proofs.change_on.Statement.{statement}
 use Rattle.session.proofs.change_on.Tie as tie
@@ -14,6 +14,12 @@ returns c =
     let a = c .before .before .before .before .before .args in
     let S = stores (a .outer .now) (a .inner .now) (a .rows .now) in
     change-early (a .s) (a .word) (a .t) S (not-true (a .s .complete) (c .if1 .taken))
+
+kind-of-requires : tie.Need-kind-of-requires
+kind-of-requires c κs = search needs
+
+side-of-requires : tie.Need-side-of-requires
+side-of-requires c κs = search needs
 
 plan-of-requires : tie.Need-plan-of-requires
 plan-of-requires c κs = search needs
@@ -27,32 +33,35 @@ used-tuples-requires-2 c κs = search needs
 used-rows-requires : tie.Need-used-rows-requires
 used-rows-requires c κs = search needs
 
-slice-relend-prefix-call : tie.Need-slice-relend-prefix-call
-slice-relend-prefix-call c = search needs
+slice-relend-prefix-change : tie.Need-slice-relend-prefix-change
+slice-relend-prefix-change c = search needs
 
-slice-aggregate-call : tie.Need-slice-aggregate-call
-slice-aggregate-call c =
-    let a = c .before .before .before .before .before .before .before .before .before .before .args in
+slice-aggregate-change : tie.Need-slice-aggregate-change
+slice-aggregate-change c =
+    let k = c .before .before .before .before .before .before in
+    let a = k .before .before .before .before .before .before .args in
     lent-long (usedTuples (a .s)) _ (a .outer .now) (c .before .before .before .used-tuples .ensures)
 
-slice-relend-prefix-call-2 : tie.Need-slice-relend-prefix-call-2
-slice-relend-prefix-call-2 c = search needs
+slice-relend-prefix-change-2 : tie.Need-slice-relend-prefix-change-2
+slice-relend-prefix-change-2 c = search needs
 
-slice-aggregate-call-2 : tie.Need-slice-aggregate-call-2
-slice-aggregate-call-2 c =
-    let a = c .before .before .before .before .before .before .before .before .before .before .before .args in
+slice-aggregate-change-2 : tie.Need-slice-aggregate-change-2
+slice-aggregate-change-2 c =
+    let k = c .before .before .before .before .before .before in
+    let a = k .before .before .before .before .before .before .before .args in
     lent-long (usedTuples (a .s)) _ (a .inner .now) (c .before .before .before .used-tuples2 .ensures)
 
-slice-relend-prefix-call-3 : tie.Need-slice-relend-prefix-call-3
-slice-relend-prefix-call-3 c = search needs
+slice-relend-prefix-change-3 : tie.Need-slice-relend-prefix-change-3
+slice-relend-prefix-change-3 c = search needs
 
-slice-aggregate-call-3 : tie.Need-slice-aggregate-call-3
-slice-aggregate-call-3 c =
-    let a = c .before .before .before .before .before .before .before .before .before .before .before .before .args in
+slice-aggregate-change-3 : tie.Need-slice-aggregate-change-3
+slice-aggregate-change-3 c =
+    let k = c .before .before .before .before .before .before in
+    let a = k .before .before .before .before .before .before .before .before .args in
     lent-long (usedRows (a .s)) _ (a .rows .now) (c .before .before .before .used-rows .ensures)
 
-call-requires : tie.Need-call-requires
-call-requires c κs = search needs
+change-requires : tie.Need-change-requires
+change-requires c κs = search needs
 
 same-length : tie.Need-same-length
 same-length c = search needs
@@ -68,39 +77,42 @@ returns-2 c =
     let o = c .before .before .before .before .before .before in
     let u = o .before .before .before .before in
     let p = u .before .before .before in
-    let a = p .before .before .before .before .before .before .args in
+    let words = p .before .before in
+    let a = words .before .before .before .before .before .before .args in
     wall-changing (a .s) _ _ _ (a .outer .now) (a .inner .now) (a .rows .now)
     (u .before .before .used-tuples .ensures)
     (u .before .used-tuples2 .ensures)
     (u .used-rows .ensures)
     _ _ _
-    (o .call .kept .1 .1 .1 .0)
-    (o .call .kept .1 .1 .1 .1 .0)
-    (o .call .kept .1 .1 .1 .1 .1 .0)
+    (o .change .kept .1 .1 .1 .1 .0)
+    (o .change .kept .1 .1 .1 .1 .1 .0)
+    (o .change .kept .1 .1 .1 .1 .1 .1 .0)
     (a .word)
     (p .plan-of .result)
     (a .t)
-    (o .call .result)
-    (not-false (a .s .complete) (p .before .if1 .left))
+    (o .change .result)
+    (not-false (a .s .complete) (words .before .if1 .left))
     (p .plan-of .ensures)
-    (o .call .ensures)
+    (called-as (a .word) _ _ _ _ _ _ _ (words .kind-of .ensures) (p .before .side-of .ensures) (o .change .ensures))
 
 pub change-on-spec : {M : Type 1} → statement M
 change-on-spec =
     tie.close
     (tie.spec
     returns
+    kind-of-requires
+    side-of-requires
     plan-of-requires
     used-tuples-requires
     used-tuples-requires-2
     used-rows-requires
-    slice-relend-prefix-call
-    slice-aggregate-call
-    slice-relend-prefix-call-2
-    slice-aggregate-call-2
-    slice-relend-prefix-call-3
-    slice-aggregate-call-3
-    call-requires
+    slice-relend-prefix-change
+    slice-aggregate-change
+    slice-relend-prefix-change-2
+    slice-aggregate-change-2
+    slice-relend-prefix-change-3
+    slice-aggregate-change-3
+    change-requires
     same-length
     same-length-2
     same-length-3
