@@ -2,8 +2,9 @@
 //
 // A plan is 67 words: the lane count, the tuple capacity, the row capacity, then 64 places for last minutes. A tuple is
 // handed over as four words, its side as one: 1 for drawings, anything else for spots. An answer is three words: the
-// refusal number and the two counts; the number is also returned. A plan, an answer or new last minutes of another
-// length are refused with 4 before all else, and nothing is written.
+// refusal number and the two counts; the number is also returned. A plan of another length says nothing and is refused
+// with 4; an answer or new last minutes of another length are refused with 4 after the plan's own numbers, 1 to 3. The
+// three words are written by every call that is lent three; every other buffer is written only where a call is accepted.
 // Nothing has to be checked before calling; each slice is an address and a length in words.
 ghost use mathlib.Core.List.{_++_};
 ghost use mathlib.Core.Path.{_≡_};
@@ -12,7 +13,7 @@ ghost use lib.ListN.{length, take, drop};
 ghost use Rattle.interval.specs.Tuple.{tuple};
 ghost use Rattle.plan.specs.Plan.{mostPartitions, numbers};
 ghost use Rattle.join.specs.declared.Kind.the-variants.{Insert, Delete};
-ghost use Rattle.exports.specs.Exports.{planHead, planWords, answerWords, minutes, planIn, wordsOf, sideOf};
+ghost use Rattle.exports.specs.Exports.{planHead, planWords, minutes, planIn, told, sideOf, lentNumber};
 ghost use Rattle.exports.specs.Exports.{OpenExported, ChangeExported, SweepExported, CutsExported};
 use interval::time::Chronon;
 use interval::time::Interval;
@@ -81,15 +82,34 @@ fn tuple_of(label: u64, item: u64, first: u64, last: u64) -> Tuple
     }
 }
 
-// Writes an answer's three words; answers its number.
+// Writes an answer's three words, where three are lent; answers its number.
 fn tell(a: Answer, answer: &mut [u64]) -> u64
-    requires { ⌜ length (now answer) ≡ answerWords ⌝ }
-    ensures { λ r. ⌜ (now (answer .exit) ≡ wordsOf a) × (r ≡ a .number) ⌝ }
+    ensures { λ r. ⌜ (now (answer .exit) ≡ told (now (answer .entry)) a) × (r ≡ a .number) ⌝ }
 {
+    if answer.len() != ANSWER_WORDS {
+        return a.number;
+    }
     answer[0] = a.number;
     answer[1] = a.changed;
     answer[2] = a.examined;
     a.number
+}
+
+// The number for lengths, given whether those of the other buffers are right: that of the plan first.
+fn lent_number(plan: &[u64], right: bool) -> u64
+    ensures { λ r. ⌜ r ≡ lentNumber (now (plan .entry)) right ⌝ }
+{
+    if plan.len() != PLAN_WORDS {
+        return 4;
+    }
+    if right {
+        return 0;
+    }
+    let number = plan::plan_number(plan_in(plan));
+    if number != 0 {
+        return number;
+    }
+    4
 }
 
 // Open.
@@ -105,11 +125,9 @@ pub extern "C" fn ruthgarwy_open(
         (now (outer .entry)) (now (inner .entry)) (now (rows .entry)) (now (answer .entry))
         (now (outer .exit)) (now (inner .exit)) (now (rows .exit)) (now (answer .exit)) r ⌝ }
 {
-    if plan.len() != PLAN_WORDS {
-        return 4;
-    }
-    if answer.len() != ANSWER_WORDS {
-        return 4;
+    let refusal = lent_number(plan, answer.len() == ANSWER_WORDS);
+    if refusal != 0 {
+        return tell(checks::refused(refusal), answer);
     }
     let a = join::open(plan_in(plan), outer, inner, rows);
     tell(a, answer)
@@ -130,11 +148,9 @@ fn change(
         (now (outer .entry)) (now (inner .entry)) (now (rows .entry)) (now (answer .entry))
         (now (outer .exit)) (now (inner .exit)) (now (rows .exit)) (now (answer .exit)) r ⌝ }
 {
-    if plan.len() != PLAN_WORDS {
-        return 4;
-    }
-    if answer.len() != ANSWER_WORDS {
-        return 4;
+    let refusal = lent_number(plan, answer.len() == ANSWER_WORDS);
+    if refusal != 0 {
+        return tell(checks::refused(refusal), answer);
     }
     let a = join::change(kind, plan_in(plan), side, t, outer, inner, rows);
     tell(a, answer)
@@ -158,12 +174,12 @@ pub extern "C" fn ruthgarwy_insert(
         (now (outer .entry)) (now (inner .entry)) (now (rows .entry)) (now (answer .entry))
         (now (outer .exit)) (now (inner .exit)) (now (rows .exit)) (now (answer .exit)) r ⌝ }
 {
-    let t = tuple_of(label, item, first, last);
+    let new = tuple_of(label, item, first, last);
     change(
         Kind::Insert,
         plan,
         side_of(side),
-        t,
+        new,
         outer,
         inner,
         rows,
@@ -189,12 +205,12 @@ pub extern "C" fn ruthgarwy_delete(
         (now (outer .entry)) (now (inner .entry)) (now (rows .entry)) (now (answer .entry))
         (now (outer .exit)) (now (inner .exit)) (now (rows .exit)) (now (answer .exit)) r ⌝ }
 {
-    let t = tuple_of(label, item, first, last);
+    let gone = tuple_of(label, item, first, last);
     change(
         Kind::Delete,
         plan,
         side_of(side),
-        t,
+        gone,
         outer,
         inner,
         rows,
@@ -218,17 +234,15 @@ pub extern "C" fn ruthgarwy_sweep(
         (now («outer_cache» .entry)) (now («inner_cache» .entry)) (now (answer .entry))
         (now (rows .exit)) (now («outer_cache» .exit)) (now («inner_cache» .exit)) (now (answer .exit)) r ⌝ }
 {
-    if plan.len() != PLAN_WORDS {
-        return 4;
-    }
-    if answer.len() != ANSWER_WORDS {
-        return 4;
+    let refusal = lent_number(plan, answer.len() == ANSWER_WORDS);
+    if refusal != 0 {
+        return tell(checks::refused(refusal), answer);
     }
     let a = join::sweep(plan_in(plan), outer, inner, rows, outer_cache, inner_cache);
     tell(a, answer)
 }
 
-// Recut: puts the plan that it returns into the plan's words.
+// Recut: where it is accepted, puts the new plan's last minutes into the plan's words.
 #[no_mangle]
 pub extern "C" fn ruthgarwy_repartition(
     plan: &mut [u64],
@@ -242,20 +256,20 @@ pub extern "C" fn ruthgarwy_repartition(
         (now (outer .entry)) (now (inner .entry)) (now (rows .entry)) (now (answer .entry))
         (now (plan .exit)) (now (answer .exit)) r ⌝ }
 {
-    if plan.len() != PLAN_WORDS {
-        return 4;
-    }
-    if answer.len() != ANSWER_WORDS {
-        return 4;
-    }
-    if cuts.len() != PLACES {
-        return 4;
+    let fits = answer.len() == ANSWER_WORDS;
+    let refusal = lent_number(plan, fits & (cuts.len() == PLACES));
+    if refusal != 0 {
+        return tell(checks::refused(refusal), answer);
     }
     let new = join::repartition(plan_in(plan), lasts_in(cuts, 0), outer, inner, rows);
+    let a = new.answer;
+    if a.number != 0 {
+        return tell(a, answer);
+    }
     let p = new.plan;
     let lasts = p.lasts;
     put_lasts(lasts, plan);
-    tell(new.answer, answer)
+    tell(a, answer)
 }
 
 // Puts last minutes into the words of a plan.

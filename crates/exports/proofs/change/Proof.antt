@@ -1,44 +1,50 @@
 -- `exports::change` meets its contract: lengths, then the join's call of the kind with the plan that the words say.
 -- Assumes nothing.
-use mathlib.Core.Path.{_≡_, refl}
+use mathlib.Core.Path.{_≡_, refl, sym, _∙_}
 use Rattle.checks.specs.Stores.{stores}
 use Rattle.join.specs.Changes.{Changed}
-use Rattle.exports.specs.Exports.{planIn, lengthsAre}
-use Rattle.exports.proofs.Exporting.{changed-said}
-use Rattle.exports.proofs.Exporting.{plan-wrong, answer-wrong, lengths-right, exported-refused, exported-called}
+use Rattle.exports.specs.Exports.{planIn, answerFits, lentNumber}
+use Rattle.exports.proofs.Exporting.{lent-long, lent-fits, exported-refused, exported-called, changed-said}
 use borrow.Author.Needs.{needs}
 use Rattle.exports.proofs.change.Statement.{statement}
 use Rattle.exports.proofs.change.Tie as tie
 
-returns : tie.Need-returns
-returns c =
-    let a = c .before .before .before .before .before .before .args in
-    let s = stores (a .outer .now) (a .inner .now) (a .rows .now) in
-    exported-refused {Kept = s ≡ s}
-    {Done = λ r. Changed (a .kind) (planIn (a .plan .now)) (a .side) (a .t) s s r}
-    (lengthsAre (a .plan .now) (a .answer .now)) (a .answer .now)
-    (plan-wrong (a .plan .now) (a .answer .now) (c .if1 .taken)) refl
+lent-number-requires : tie.Need-lent-number-requires
+lent-number-requires c κs = search needs
 
-returns-2 : tie.Need-returns-2
-returns-2 c =
-    let a = c .before .before .before .before .before .before .before .args in
-    let s = stores (a .outer .now) (a .inner .now) (a .rows .now) in
-    exported-refused {Kept = s ≡ s}
-    {Done = λ r. Changed (a .kind) (planIn (a .plan .now)) (a .side) (a .t) s s r}
-    (lengthsAre (a .plan .now) (a .answer .now)) (a .answer .now)
-    (answer-wrong (a .plan .now) (a .answer .now) (c .if2 .taken)) refl
-
-plan-in-requires : tie.Need-plan-in-requires
-plan-in-requires c κs = search needs
-
-change-requires : tie.Need-change-requires
-change-requires c κs = search needs
+refused-requires : tie.Need-refused-requires
+refused-requires c κs = search needs
 
 tell-requires : tie.Need-tell-requires
 tell-requires c κs = search needs
 
 same-length : tie.Need-same-length
 same-length c = search needs
+
+returns : tie.Need-returns
+returns c =
+    let tell = c .before .before in
+    let refused = tell .before .before in
+    let lent = refused .before .before in
+    let a = lent .before .before .before .before .before .before .args in
+    let s = stores (a .outer .now) (a .inner .now) (a .rows .now) in
+    exported-refused {Kept = s ≡ s}
+    {Done = λ r. Changed (a .kind) (planIn (a .plan .now)) (a .side) (a .t) s s r}
+    (lentNumber (a .plan .now) (answerFits (a .answer .now))) (a .answer .now) (tell .tell .last .1 .0)
+    (lent .lent-number .result) (tell .tell .result) (refused .refused .result) (lent .lent-number .ensures)
+    (refused .before .if1 .taken) (refused .refused .ensures) (tell .tell .ensures) refl
+
+plan-in-requires : tie.Need-plan-in-requires
+plan-in-requires c κs =
+    let lent = c .before in
+    let a = lent .before .before .before .before .before .before .args in
+    lent-long (a .plan .now) (answerFits (a .answer .now)) (sym (lent .lent-number .ensures) ∙ c .if1 .left)
+
+change-requires : tie.Need-change-requires
+change-requires c κs = search needs
+
+tell-requires-2 : tie.Need-tell-requires-2
+tell-requires-2 c κs = search needs
 
 same-length-2 : tie.Need-same-length-2
 same-length-2 c = search needs
@@ -49,21 +55,25 @@ same-length-3 c = search needs
 same-length-4 : tie.Need-same-length-4
 same-length-4 c = search needs
 
-returns-3 : tie.Need-returns-3
-returns-3 c =
-    let called = c .before .before .before .before .before .before .before .before .before .before in
+same-length-5 : tie.Need-same-length-5
+same-length-5 c = search needs
+
+returns-2 : tie.Need-returns-2
+returns-2 c =
+    let tell = c .before .before in
+    let called = tell .before .before .before .before .before .before .before .before in
     let plan = called .before .before .before .before in
-    let passed = plan .before in
-    let a = passed .before .before .before .before .before .before .before .args in
+    let lent = plan .before .before in
+    let a = lent .before .before .before .before .before .before .args in
+    let right = answerFits (a .answer .now) in
+    let zero = sym (lent .lent-number .ensures) ∙ plan .before .if1 .left in
     let s = stores (a .outer .now) (a .inner .now) (a .rows .now) in
     let o = called .change .last .1 .1 .1 .1 in
     let s′ = stores (o .0) (o .1 .0) (o .1 .1 .0) in
     exported-called {Kept = s′ ≡ s}
     {Done = λ r. Changed (a .kind) (planIn (a .plan .now)) (a .side) (a .t) s s′ r}
-    (lengthsAre (a .plan .now) (a .answer .now)) (a .answer .now) (c .before .before .tell .last .1 .0)
-    (c .before .before .tell .result) (called .change .result)
-    (lengths-right (a .plan .now) (a .answer .now) (passed .before .if1 .left) (passed .if2 .left))
-    (c .before .before .tell .ensures)
+    (lentNumber (a .plan .now) right) (a .answer .now) (tell .tell2 .last .1 .0) (tell .tell2 .result)
+    (called .change .result) zero (lent-fits (a .plan .now) right zero) (tell .tell2 .ensures)
     (changed-said (a .kind) (plan .plan-in .result) (planIn (a .plan .now)) (a .side) (a .t) s s′
     (called .change .result) (plan .plan-in .ensures) (called .change .ensures))
 
@@ -71,13 +81,16 @@ pub change-spec : {M : Type 1} → statement M
 change-spec =
     tie.close
     (tie.spec
-    returns
-    returns-2
-    plan-in-requires
-    change-requires
+    lent-number-requires
+    refused-requires
     tell-requires
     same-length
+    returns
+    plan-in-requires
+    change-requires
+    tell-requires-2
     same-length-2
     same-length-3
     same-length-4
-    returns-3)
+    same-length-5
+    returns-2)

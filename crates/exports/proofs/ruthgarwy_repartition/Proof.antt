@@ -1,63 +1,32 @@
--- `exports::ruthgarwy_repartition` meets its contract: lengths, then `join::repartition`; the last minutes that it
--- returns go into the plan's words.
+-- `exports::ruthgarwy_repartition` meets its contract: lengths, then `join::repartition`; where it is accepted, the last
+-- minutes that it returns go into the plan's words.
 -- Assumes nothing.
-use mathlib.Core.Bool.{Bool, _&&_}
-use mathlib.Core.Path.{_≡_, refl, _∙_}
+use mathlib.Core.Bool.{Bool, true, _&&_}
+use mathlib.Core.Path.{_≡_, refl, sym, _∙_}
+use native.Mathlib.Omega.{arith}
 use lib.Dec.{eqb}
 use lib.ListN.{length, length-map}
+use borrow.Author.Tests.{eqb-true}
+use Rattle.lists.proofs.Choice.{and-left, and-right}
 use Rattle.plan.specs.Plan.{mostPartitions}
 use Rattle.checks.specs.Stores.{stores}
-use Rattle.join.specs.Repartitioning.{Repartitioned}
-use Rattle.exports.specs.Exports.{minutes, planIn, lengthsAre}
+use Rattle.exports.specs.Exports.{planWords, minutes, answerFits, lentNumber, CutsPut}
 use Rattle.exports.proofs.Words.{minutes-whole}
-use Rattle.exports.proofs.Exporting.{plan-wrong, answer-wrong, cuts-wrong, with-cuts-wrong, with-cuts-right}
-use Rattle.exports.proofs.Exporting.{exported-refused, exported-called, said-cuts}
+use Rattle.exports.proofs.Exporting.{lent-long, lent-fits, exported-refused, exported-called}
+use Rattle.exports.proofs.Exporting.{cuts-kept, cuts-put}
 use borrow.Author.Needs.{needs}
 use Rattle.exports.proofs.ruthgarwy_repartition.Statement.{statement}
 use Rattle.exports.proofs.ruthgarwy_repartition.Tie as tie
 
--- whether the lengths are right
+-- whether the lengths of the answer and of the new last minutes are right
 abbrev right : tie.Start → Bool
-right c =
-    lengthsAre (c .args .plan .now) (c .args .answer .now) && eqb (length (c .args .cuts .now)) mostPartitions
+right c = answerFits (c .args .answer .now) && eqb (length (c .args .cuts .now)) mostPartitions
 
-returns : tie.Need-returns
-returns c =
-    let start = c .before .before .before .before .before .before .before in
-    let a = start .args in
-    exported-refused (right start) (a .answer .now)
-    (with-cuts-wrong (a .plan .now) (a .answer .now) (a .cuts .now)
-    (plan-wrong (a .plan .now) (a .answer .now) (c .if1 .taken)))
-    refl
+lent-number-requires : tie.Need-lent-number-requires
+lent-number-requires c κs = search needs
 
-returns-2 : tie.Need-returns-2
-returns-2 c =
-    let start = c .before .before .before .before .before .before .before .before in
-    let a = start .args in
-    exported-refused (right start) (a .answer .now)
-    (with-cuts-wrong (a .plan .now) (a .answer .now) (a .cuts .now)
-    (answer-wrong (a .plan .now) (a .answer .now) (c .if2 .taken)))
-    refl
-
-returns-3 : tie.Need-returns-3
-returns-3 c =
-    let start = c .before .before .before .before .before .before .before .before .before in
-    let a = start .args in
-    exported-refused (right start) (a .answer .now)
-    (cuts-wrong (a .plan .now) (a .answer .now) (a .cuts .now) (c .if3 .taken))
-    refl
-
-plan-in-requires : tie.Need-plan-in-requires
-plan-in-requires c κs = search needs
-
-lasts-in-requires : tie.Need-lasts-in-requires
-lasts-in-requires c κs = search needs
-
-repartition-requires : tie.Need-repartition-requires
-repartition-requires c κs = search needs
-
-put-lasts-requires : tie.Need-put-lasts-requires
-put-lasts-requires c κs = search needs
+refused-requires : tie.Need-refused-requires
+refused-requires c κs = search needs
 
 tell-requires : tie.Need-tell-requires
 tell-requires c κs = search needs
@@ -68,41 +37,139 @@ same-length c = search needs
 same-length-2 : tie.Need-same-length-2
 same-length-2 c = search needs
 
-returns-4 : tie.Need-returns-4
-returns-4 c =
-    let called = c .before .before .before .before .before .before .before .before .before .before in
+returns : tie.Need-returns
+returns c =
+    let tell = c .before .before in
+    let refused = tell .before .before in
+    let lent = refused .before .before in
+    let start = lent .before .before .before .before .before .before .before .before in
+    let a = start .args in
+    exported-refused {Kept = a .plan .now ≡ a .plan .now}
+    (lentNumber (a .plan .now) (right start)) (a .answer .now) (tell .tell .last .1 .0)
+    (lent .lent-number .result) (tell .tell .result) (refused .refused .result) (lent .lent-number .ensures)
+    (refused .before .if1 .taken) (refused .refused .ensures) (tell .tell .ensures) refl
+
+plan-in-requires : tie.Need-plan-in-requires
+plan-in-requires c κs =
+    let start = c .before .before .before .before .before .before .before .before .before .before in
+    lent-long (start .args .plan .now) (right start)
+    (sym (c .before .before .lent-number .ensures) ∙ c .before .if1 .left)
+
+-- what is known past the lengths: they are right, of plan, answer and new last minutes
+module _ (c : tie.After-plan-in) where
+  abbrev start : tie.Start
+  start = c .before .before .before .before .before .before .before .before .before .before .before
+
+  zero : lentNumber (start .args .plan .now) (right start) ≡ 0
+  zero = sym (c .before .before .before .lent-number .ensures) ∙ c .before .before .if1 .left
+
+  plan-long : length (start .args .plan .now) ≡ planWords
+  plan-long = lent-long (start .args .plan .now) (right start) zero
+
+  both : right start ≡ true
+  both = lent-fits (start .args .plan .now) (right start) zero
+
+  answer-fits : answerFits (start .args .answer .now) ≡ true
+  answer-fits = and-left (answerFits (start .args .answer .now)) _ both
+
+  cuts-long : length (start .args .cuts .now) ≡ mostPartitions
+  cuts-long = eqb-true _ mostPartitions (and-right (answerFits (start .args .answer .now)) _ both)
+
+lasts-in-requires : tie.Need-lasts-in-requires
+lasts-in-requires c κs = omega (arith, cuts-long c)
+
+repartition-requires : tie.Need-repartition-requires
+repartition-requires c κs = search needs
+
+tell-requires-2 : tie.Need-tell-requires-2
+tell-requires-2 c κs = search needs
+
+same-length-3 : tie.Need-same-length-3
+same-length-3 c = search needs
+
+same-length-4 : tie.Need-same-length-4
+same-length-4 c = search needs
+
+returns-2 : tie.Need-returns-2
+returns-2 c =
+    let tell = c .before .before in
+    let checked = tell .before .before in
+    let called = checked .before .before .before in
     let cuts = called .before in
     let plan = cuts .before in
-    let passed = plan .before .before in
-    let start = passed .before .before .before .before .before .before .before .before .before in
-    let a = start .args in
+    let a = start plan .args in
     let s = stores (a .outer .now) (a .inner .now) (a .rows .now) in
-    let ws′ = c .before .before .before .before .before .before .put-lasts .last .1 .0 in
-    let long = passed .before .before .if1 .left in
-    let many = passed .if3 .left in
+    let new = cuts .lasts-in .ensures ∙ minutes-whole (a .cuts .now) (cuts-long plan) in
+    exported-called {Kept = a .plan .now ≡ a .plan .now}
+    {Done = λ r. CutsPut (a .plan .now) (a .cuts .now) (a .plan .now) s r}
+    (lentNumber (a .plan .now) (right (start plan))) (a .answer .now) (tell .tell2 .last .1 .0) (tell .tell2 .result)
+    (called .repartition .result .answer) (zero plan) (answer-fits plan) (tell .tell2 .ensures)
+    (record {
+      made =
+          cuts-kept (a .plan .now) (plan .plan-in .result) (called .repartition .result .plan) (cuts .lasts-in .result)
+          (minutes (a .cuts .now)) s (called .repartition .result .answer) (plan .plan-in .ensures) new
+          (called .repartition .ensures) (checked .if2 .taken);
+      long = plan-long plan;
+      kept = λ ne. refl;
+    })
+
+put-lasts-requires : tie.Need-put-lasts-requires
+put-lasts-requires c κs = plan-long (c .before .before .before .before .before .before .before .before)
+
+tell-requires-3 : tie.Need-tell-requires-3
+tell-requires-3 c κs = search needs
+
+same-length-5 : tie.Need-same-length-5
+same-length-5 c = search needs
+
+same-length-6 : tie.Need-same-length-6
+same-length-6 c = search needs
+
+returns-3 : tie.Need-returns-3
+returns-3 c =
+    let tell = c .before .before in
+    let put = tell .before .before .before .before in
+    let checked = put .before .before .before .before in
+    let called = checked .before .before .before in
+    let cuts = called .before in
+    let plan = cuts .before in
+    let a = start plan .args in
+    let s = stores (a .outer .now) (a .inner .now) (a .rows .now) in
+    let ws′ = put .put-lasts .last .1 .0 in
+    let new = cuts .lasts-in .ensures ∙ minutes-whole (a .cuts .now) (cuts-long plan) in
     exported-called {Kept = ws′ ≡ a .plan .now}
-    {Done = λ r. Repartitioned (planIn (a .plan .now)) (minutes (a .cuts .now)) s s r (planIn ws′)}
-    (right start) (a .answer .now) (c .before .before .tell .last .1 .0) (c .before .before .tell .result)
-    (called .repartition .result .answer)
-    (with-cuts-right (a .plan .now) (a .answer .now) (a .cuts .now) long (passed .before .if2 .left) many)
-    (c .before .before .tell .ensures)
-    (said-cuts (a .plan .now) ws′ (plan .plan-in .result) (called .repartition .result .plan) (cuts .lasts-in .result)
-    (minutes (a .cuts .now)) s s (called .repartition .result .answer) long (length-map (a .cuts .now) _ ∙ many)
-    (plan .plan-in .ensures) (cuts .lasts-in .ensures ∙ minutes-whole (a .cuts .now) many)
-    (called .repartition .ensures) (c .before .before .before .before .before .before .put-lasts .ensures))
+    {Done = λ r. CutsPut (a .plan .now) (a .cuts .now) ws′ s r}
+    (lentNumber (a .plan .now) (right (start plan))) (a .answer .now) (tell .tell3 .last .1 .0) (tell .tell3 .result)
+    (called .repartition .result .answer) (zero plan) (answer-fits plan) (tell .tell3 .ensures)
+    (record {
+      made =
+          cuts-put (a .plan .now) (plan .plan-in .result) (called .repartition .result .plan) (cuts .lasts-in .result)
+          (minutes (a .cuts .now)) s (called .repartition .result .answer) (plan .plan-in .ensures) new
+          (called .repartition .ensures) ws′ (plan-long plan) (length-map (a .cuts .now) _ ∙ cuts-long plan)
+          (put .put-lasts .ensures);
+      long = put .put-lasts .kept .1 .0 ∙ plan-long plan;
+      kept = λ ne. absurd (ne (checked .if2 .left));
+    })
 
 pub ruthgarwy-repartition-spec : {M : Type 1} → statement M
 ruthgarwy-repartition-spec =
     tie.close
     (tie.spec
-    returns
-    returns-2
-    returns-3
-    plan-in-requires
-    lasts-in-requires
-    repartition-requires
-    put-lasts-requires
+    lent-number-requires
+    refused-requires
     tell-requires
     same-length
     same-length-2
-    returns-4)
+    returns
+    plan-in-requires
+    lasts-in-requires
+    repartition-requires
+    tell-requires-2
+    same-length-3
+    same-length-4
+    returns-2
+    put-lasts-requires
+    tell-requires-3
+    same-length-5
+    same-length-6
+    returns-3)

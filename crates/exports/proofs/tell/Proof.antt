@@ -1,10 +1,23 @@
--- `exports::tell` meets its contract: its three stores are all the words of the answer's buffer.
+-- `exports::tell` meets its contract: its three stores are all the words of an answer's buffer of three.
 -- Assumes nothing.
-use mathlib.Core.Path.{refl}
+use mathlib.Core.Path.{refl, sym, _∙_}
+use lib.Dec.{eqb}
+use lib.ListN.{length}
+use borrow.Author.Tests.{eq-eqb, ne-eqb}
+use Rattle.lists.proofs.Choice.{pick-true, pick-false}
+use Rattle.exports.specs.Exports.{answerWords, wordsOf}
 use Rattle.exports.proofs.Words.{three-told}
 use borrow.Author.Needs.{needs}
 use Rattle.exports.proofs.tell.Statement.{statement}
 use Rattle.exports.proofs.tell.Tie as tie
+
+returns : tie.Need-returns
+returns c =
+    let a = c .before .args in
+    let ws = a .answer .now in (
+      sym (pick-false (eqb (length ws) answerWords) (wordsOf (a .a)) ws (ne-eqb (length ws) answerWords (c .if1 .taken))),
+      refl,
+    )
 
 slice-write-answer : tie.Need-slice-write-answer
 slice-write-answer c = search needs
@@ -18,10 +31,17 @@ slice-write-answer-3 c = search needs
 same-length : tie.Need-same-length
 same-length c = search needs
 
-returns : tie.Need-returns
-returns c = (three-told (c .args .answer .now) _ _ _ (c .pre), refl)
+returns-2 : tie.Need-returns-2
+returns-2 c =
+    let a = c .before .args in
+    let ws = a .answer .now in
+    let three = c .if1 .left in (
+      three-told ws _ _ _ three
+          ∙ sym (pick-true (eqb (length ws) answerWords) (wordsOf (a .a)) ws (eq-eqb (length ws) answerWords three)),
+      refl,
+    )
 
 pub tell-spec : {M : Type 1} → statement M
 tell-spec =
     tie.close
-    (tie.spec slice-write-answer slice-write-answer-2 slice-write-answer-3 same-length returns)
+    (tie.spec returns slice-write-answer slice-write-answer-2 slice-write-answer-3 same-length returns-2)
