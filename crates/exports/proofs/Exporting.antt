@@ -1,19 +1,14 @@
--- Laws of exported calls: the number for lengths; what a call leaves, refused for a length and called; and its promise
--- for what the words say.
+-- Laws of exported calls: what a call leaves, refused for a length and called; and its promise for what the words say.
 -- Assumes nothing.
-use mathlib.Core.Bool.{Bool, true, false}
+use mathlib.Core.Bool.{true}
 use mathlib.Core.List.{List, _++_}
-use mathlib.Core.Logic.{⊎-elim}
-use mathlib.Core.Path.{_≡_, refl, sym, _∙_, ap, subst}
+use mathlib.Core.Path.{_≡_, sym, _∙_, ap, subst}
 use Prim.Native.Nat.{ℕ}
-use native.Mathlib.Omega.{arith}
-use lib.Dec.{eqb}
 use lib.ListN.{length, take}
-use borrow.Author.Tests.{eq-eqb, ne-eqb, eqb-true, eqb-false}
-use Rattle.lists.proofs.Choice.{bool-cases, pick-true, answer-here, answer-next, answer-last}
+use Rattle.lists.proofs.Choice.{pick-true}
 use Rattle.interval.specs.declared.time.Chronon.{Chronon}
 use Rattle.interval.specs.declared.tuple.Tuple.{Tuple}
-use Rattle.plan.specs.Plan.{mostPartitions, numbers, planNumber}
+use Rattle.plan.specs.Plan.{mostPartitions, numbers}
 use Rattle.plan.specs.declared.Partitioning.{Partitioning}
 use Rattle.rows.specs.declared.Side.{Side}
 use Rattle.checks.specs.Stores.{Stores, Says}
@@ -23,53 +18,9 @@ use Rattle.join.specs.Changes.{Changed}
 use Rattle.join.specs.Sweeps.{Swept}
 use Rattle.join.specs.Repartitioning.{Repartitioned}
 use Rattle.join.specs.declared.Kind.{Kind}
-use Rattle.exports.specs.Exports.{planHead, planWords, planIn, wordsOf, told, refusal, answerFits, lentNumber}
+use Rattle.layout.specs.Layout.{planHead, planWords, planIn, wordsOf, told, refusal, answerFits}
+use Rattle.layout.proofs.Words.{plan-put-cuts}
 use Rattle.exports.specs.Exports.{Exported, ChangeExported}
-use Rattle.exports.proofs.Words.{plan-put-back}
-
--- ---- the number for lengths
-
-module _ (ws : List ℕ) where
-  -- a plan of another length
-  pub lent-other : (right : Bool) → (length ws ≡ planWords → ⊥) → 4 ≡ lentNumber ws right
-  unfolding lentNumber
-  lent-other right ne = rw (ne-eqb (length ws) planWords ne)
-
-  module _ (e : length ws ≡ planWords) where
-    -- all lengths are right
-    pub lent-right : (right : Bool) → right ≡ true → 0 ≡ lentNumber ws right
-    unfolding lentNumber
-    lent-right right r = rw (eq-eqb (length ws) planWords e, r)
-
-    -- another is not: the plan's own number n, or 4
-    pub lent-plan : (right : Bool) (n : ℕ) → right ≡ false → n ≡ planNumber (planIn ws) → (n ≡ 0 → ⊥)
-        → n ≡ lentNumber ws right
-    unfolding lentNumber
-    lent-plan right n r h ne = rw (eq-eqb (length ws) planWords e, r) (answer-here _ h ne)
-
-    pub lent-four : (right : Bool) (n : ℕ) → right ≡ false → n ≡ planNumber (planIn ws) → n ≡ 0
-        → 4 ≡ lentNumber ws right
-    unfolding lentNumber
-    lent-four right n r h z = rw (eq-eqb (length ws) planWords e, r) (answer-next _ h z (answer-last refl))
-
-  -- 0: the plan's length is right, and the others are
-  pub lent-long : (right : Bool) → lentNumber ws right ≡ 0 → length ws ≡ planWords
-  lent-long right z =
-      ⊎-elim (λ t. eqb-true (length ws) planWords t)
-      (λ t. absurd (omega (arith, lent-other right (eqb-false (length ws) planWords t))))
-      (bool-cases (eqb (length ws) planWords))
-
-  pub lent-fits : (right : Bool) → lentNumber ws right ≡ 0 → right ≡ true
-  lent-fits right z =
-      let e = lent-long right z in
-      let n = planNumber (planIn ws) in
-      ⊎-elim (λ t. t)
-      (λ r.
-      absurd
-      (⊎-elim (λ t. omega (arith, lent-four e right n r refl (eqb-true n 0 t)))
-      (λ t. eqb-false n 0 t (lent-plan e right n r refl (eqb-false n 0 t) ∙ z))
-      (bool-cases (eqb n 0))))
-      (bool-cases right)
 
 -- ---- the call
 
@@ -127,8 +78,8 @@ module _ (ws : List ℕ) (p q : Partitioning) (new new′ : List Chronon) (s : S
   cuts-kept ne = subst (λ v. Repartitioned (planIn ws) new′ s s a v) (said-cuts .refused ne) said-cuts
 
   -- accepted, the new last minutes stand in them
-  pub cuts-put : (ws′ : List ℕ) → length ws ≡ planWords → length new′ ≡ mostPartitions
+  pub cuts-put : (ws′ : List ℕ) → a .number ≡ 0 → length ws ≡ planWords → length new′ ≡ mostPartitions
       → ws′ ≡ take planHead ws ++ numbers (q .lasts) → Repartitioned (planIn ws) new′ s s a (planIn ws′)
-  cuts-put ws′ l n h =
-      let back = plan-put-back ws l new′ s s a q n said-cuts in
+  cuts-put ws′ z l n h =
+      let back = plan-put-cuts ws l new′ q n (said-cuts .accepted z) in
       subst (λ v. Repartitioned (planIn ws) new′ s s a v) (sym (ap planIn h ∙ back)) said-cuts

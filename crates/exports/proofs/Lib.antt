@@ -1,3 +1,2 @@
--- The laws of this crate, in a reader's order.
-pub mod Words
-pub mod Exporting
+-- The laws of this crate.
+mod Exporting

@@ -1,5 +1,5 @@
--- `exports::ruthgarwy_repartition` meets its contract: lengths, then `join::repartition`; where it is accepted, the last
--- minutes that it returns go into the plan's words.
+-- `exports::ruthgarwy_repartition` meets its contract: lengths, then `join::repartition`; where it is accepted, the
+-- last minutes that it returns go into the plan's words.
 -- Assumes nothing.
 use mathlib.Core.Bool.{Bool, true, _&&_}
 use mathlib.Core.Path.{_≡_, refl, sym, _∙_}
@@ -10,9 +10,11 @@ use borrow.Author.Tests.{eqb-true}
 use Rattle.lists.proofs.Choice.{and-left, and-right}
 use Rattle.plan.specs.Plan.{mostPartitions}
 use Rattle.checks.specs.Stores.{stores}
-use Rattle.exports.specs.Exports.{planWords, minutes, answerFits, lentNumber, CutsPut}
-use Rattle.exports.proofs.Words.{minutes-whole}
-use Rattle.exports.proofs.Exporting.{lent-long, lent-fits, exported-refused, exported-called}
+use Rattle.layout.specs.Layout.{planWords, minutes, answerFits, lentNumber}
+use Rattle.layout.proofs.Lent.{lent-long, lent-fits}
+use Rattle.layout.proofs.Words.{minutes-whole}
+use Rattle.exports.specs.Exports.{CutsPut}
+use Rattle.exports.proofs.Exporting.{exported-refused, exported-called}
 use Rattle.exports.proofs.Exporting.{cuts-kept, cuts-put}
 use borrow.Author.Needs.{needs}
 use Rattle.exports.proofs.ruthgarwy_repartition.Statement.{statement}
@@ -145,7 +147,8 @@ returns-3 c =
       made =
           cuts-put (a .plan .now) (plan .plan-in .result) (called .repartition .result .plan) (cuts .lasts-in .result)
           (minutes (a .cuts .now)) s (called .repartition .result .answer) (plan .plan-in .ensures) new
-          (called .repartition .ensures) ws′ (plan-long plan) (length-map (a .cuts .now) _ ∙ cuts-long plan)
+          (called .repartition .ensures) ws′ (checked .if2 .left) (plan-long plan)
+          (length-map (a .cuts .now) _ ∙ cuts-long plan)
           (put .put-lasts .ensures);
       long = put .put-lasts .kept .1 .0 ∙ plan-long plan;
       kept = λ ne. absurd (ne (checked .if2 .left));

@@ -3,8 +3,9 @@
 use mathlib.Core.Path.{_≡_, refl, sym, _∙_}
 use Rattle.checks.specs.Stores.{stores}
 use Rattle.join.specs.Sweeps.{Swept}
-use Rattle.exports.specs.Exports.{planIn, answerFits, lentNumber}
-use Rattle.exports.proofs.Exporting.{lent-long, lent-fits, exported-refused, exported-called, swept-said}
+use Rattle.layout.specs.Layout.{planIn, answerFits, lentNumber}
+use Rattle.layout.proofs.Lent.{lent-long, lent-fits}
+use Rattle.exports.proofs.Exporting.{exported-refused, exported-called, swept-said}
 use borrow.Author.Needs.{needs}
 use Rattle.exports.proofs.ruthgarwy_sweep.Statement.{statement}
 use Rattle.exports.proofs.ruthgarwy_sweep.Tie as tie

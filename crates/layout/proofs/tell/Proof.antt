@@ -1,23 +1,22 @@
--- `exports::tell` meets its contract: its three stores are all the words of an answer's buffer of three.
+-- `layout::tell` meets its contract: its three stores are all the words of an answer's buffer of three.
 -- Assumes nothing.
 use mathlib.Core.Path.{refl, sym, _∙_}
 use lib.Dec.{eqb}
 use lib.ListN.{length}
 use borrow.Author.Tests.{eq-eqb, ne-eqb}
 use Rattle.lists.proofs.Choice.{pick-true, pick-false}
-use Rattle.exports.specs.Exports.{answerWords, wordsOf}
-use Rattle.exports.proofs.Words.{three-told}
+use Rattle.layout.specs.Layout.{answerWords, wordsOf}
+use Rattle.layout.proofs.Words.{three-told}
 use borrow.Author.Needs.{needs}
-use Rattle.exports.proofs.tell.Statement.{statement}
-use Rattle.exports.proofs.tell.Tie as tie
+use Rattle.layout.proofs.tell.Statement.{statement}
+use Rattle.layout.proofs.tell.Tie as tie
 
 returns : tie.Need-returns
 returns c =
     let a = c .before .args in
-    let ws = a .answer .now in (
-      sym (pick-false (eqb (length ws) answerWords) (wordsOf (a .a)) ws (ne-eqb (length ws) answerWords (c .if1 .taken))),
-      refl,
-    )
+    let ws = a .answer .now in
+    let other = ne-eqb (length ws) answerWords (c .if1 .taken) in
+    (sym (pick-false (eqb (length ws) answerWords) (wordsOf (a .a)) ws other), refl)
 
 slice-write-answer : tie.Need-slice-write-answer
 slice-write-answer c = search needs

@@ -1,26 +1,18 @@
 -- Laws of the layout: a run of words copied place by place; an answer's three words; last minutes as words and back;
--- the plan that words say, and after last minutes are put into them; that nothing of a plan's words is lost; and the
--- plan that a repartition returns.
+-- the plan that words say, and after last minutes are put into them; that nothing of a plan's words is lost.
 -- Assumes nothing.
 use mathlib.Core.List.{List, [], _∷_, _++_, append-nil}
-use mathlib.Core.Logic.{⊎-elim}
 use mathlib.Core.Path.{_≡_, refl, sym, _∙_, ap}
 use Prim.Native.Nat.{ℕ, _+_, _≤_, _<_}
 use native.Mathlib.Numerals.{add-one}
 use native.Mathlib.Omega.{arith}
-use lib.Dec.{eqb}
 use lib.ListN.{length, getD, take, drop, set, length-take, length-drop, length-append, length-map, List·getD-map}
 use lib.ListN.{drop-of-length-le}
 use lib.Seq.{paste, paste-zero, paste-suc, length-paste, take-all, getD-take, getD-drop}
-use borrow.Author.Tests.{eqb-true, eqb-false}
-use Rattle.lists.proofs.Choice.{bool-cases}
 use Rattle.interval.specs.declared.time.Chronon.{Chronon}
 use Rattle.plan.specs.Plan.{mostPartitions, numbers, withCuts}
 use Rattle.plan.specs.declared.Partitioning.{Partitioning}
-use Rattle.checks.specs.Stores.{Stores}
-use Rattle.checks.specs.declared.Answer.{Answer}
-use Rattle.join.specs.Repartitioning.{Repartitioned}
-use Rattle.exports.specs.Exports.{planHead, planWords, answerWords, minutes, planIn}
+use Rattle.layout.specs.Layout.{planHead, planWords, answerWords, minutes, planIn}
 
 -- ---- copying: the first i members of `source` stand in `whole` from place `at` on, all else as it was
 
@@ -131,7 +123,7 @@ pub plan-words-whole : (ws vs : List ℕ) → length ws ≡ planWords → length
     → ws ≡ vs
 plan-words-whole ws vs e f h = sym (plan-words ws e) ∙ ap wordsIn h ∙ plan-words vs f
 
--- ---- the plan that a repartition returns: with its last minutes put into them, the words say it
+-- ---- new last minutes put into the words: they say the plan with these
 
 module _ (ws : List ℕ) (e : length ws ≡ planWords) where
   put-back : (lasts : List Chronon) (q : Partitioning) → length lasts ≡ mostPartitions → q ≡ withLasts ws lasts
@@ -139,24 +131,13 @@ module _ (ws : List ℕ) (e : length ws ≡ planWords) where
   put-back lasts q l h =
       ap (λ (r : Partitioning). planIn (take planHead ws ++ numbers (r .lasts))) h ∙ plan-put ws lasts e l ∙ sym h
 
-  put-kept : (q : Partitioning) → q ≡ planIn ws → planIn (take planHead ws ++ numbers (q .lasts)) ≡ q
-  put-kept q h =
-      let lasts = minutes (take mostPartitions (drop planHead ws)) in
-      put-back lasts q (length-minutes-at planHead ws (omega arith)) (h ∙ sym (plan-said ws lasts refl))
-
-  put-new : (new : List Chronon) (q : Partitioning) → length new ≡ mostPartitions → q ≡ withCuts (planIn ws) new
+  pub plan-put-cuts : (new : List Chronon) (q : Partitioning) → length new ≡ mostPartitions
+      → q ≡ withCuts (planIn ws) new
       → planIn (take planHead ws ++ numbers (q .lasts)) ≡ q
   unfolding withCuts planIn
-  put-new new q l h =
+  plan-put-cuts new q l h =
       let n = getD ws 0 0 in
       let old = minutes (take mostPartitions (drop planHead ws)) in
       let long = length-minutes-at planHead ws (omega arith) in
       put-back (take n new ++ drop n old) q
       (simp (length-append, length-take, length-drop) (omega arith)) h
-
-  pub plan-put-back : (new : List Chronon) (s s′ : Stores) (a : Answer) (q : Partitioning) → length new ≡ mostPartitions
-      → Repartitioned (planIn ws) new s s′ a q → planIn (take planHead ws ++ numbers (q .lasts)) ≡ q
-  plan-put-back new s s′ a q l r =
-      ⊎-elim (λ t. put-new new q l (r .accepted (eqb-true (a .number) 0 t)))
-      (λ t. put-kept q (r .refused (eqb-false (a .number) 0 t)))
-      (bool-cases (eqb (a .number) 0))

@@ -1,12 +1,12 @@
--- `exports::side_of` meets its contract: 1 is drawings, every other word spots.
+-- `layout::side_of` meets its contract: 1 is drawings, every other word spots.
 -- Assumes nothing.
 use mathlib.Core.Path.{sym}
 use lib.Dec.{eqb}
 use borrow.Author.Tests.{eq-eqb, ne-eqb}
 use Rattle.lists.proofs.Choice.{pick-true, pick-false}
 use Rattle.rows.specs.declared.Side.the-variants.{Outer, Inner}
-use Rattle.exports.proofs.side_of.Statement.{statement}
-use Rattle.exports.proofs.side_of.Tie as tie
+use Rattle.layout.proofs.side_of.Statement.{statement}
+use Rattle.layout.proofs.side_of.Tie as tie
 
 returns : tie.Need-returns
 returns c =

@@ -1,4 +1,4 @@
--- `exports::lasts_in` meets its contract. The loop's invariant is `Copied`: the first i places hold the last
+-- `layout::lasts_in` meets its contract. The loop's invariant is `Copied`: the first i places hold the last
 -- minutes of the words from the given place on. The measure is how many places are left.
 -- Assumes nothing.
 use mathlib.Core.List.{List}
@@ -9,11 +9,11 @@ use native.Mathlib.Omega.{arith}
 use lib.ListN.{length, take, drop, replicate}
 use Rattle.interval.specs.declared.time.Chronon.{Chronon}
 use Rattle.plan.specs.Plan.{mostPartitions}
-use Rattle.exports.specs.Exports.{minutes}
-use Rattle.exports.proofs.Words.{Copied, copied-none, copied-more, copied-length, copied-all}
-use Rattle.exports.proofs.Words.{length-minutes-at, minute-at}
-use Rattle.exports.proofs.lasts_in.Statement.{statement}
-use Rattle.exports.proofs.lasts_in.Tie as tie
+use Rattle.layout.specs.Layout.{minutes}
+use Rattle.layout.proofs.Words.{Copied, copied-none, copied-more, copied-length, copied-all}
+use Rattle.layout.proofs.Words.{length-minutes-at, minute-at}
+use Rattle.layout.proofs.lasts_in.Statement.{statement}
+use Rattle.layout.proofs.lasts_in.Tie as tie
 
 abbrev Inv-loop : tie.InvT-loop
 Inv-loop words from lasts₀ i₀ lasts i = Copied lasts₀ 0 (minutes (take mostPartitions (drop from words))) i lasts

@@ -1,11 +1,11 @@
--- `exports::lent_number` meets its contract: the plan's length, the others, the plan's own number, 4.
+-- `layout::lent_number` meets its contract: the plan's length, the others, the plan's own number, 4.
 -- Assumes nothing.
 use mathlib.Core.Path.{sym, _∙_, ap}
 use Rattle.plan.specs.Plan.{planNumber}
-use Rattle.exports.proofs.Exporting.{lent-other, lent-right, lent-plan, lent-four}
+use Rattle.layout.proofs.Lent.{lent-other, lent-right, lent-plan, lent-four}
 use borrow.Author.Needs.{needs}
-use Rattle.exports.proofs.lent_number.Statement.{statement}
-use Rattle.exports.proofs.lent_number.Tie as tie
+use Rattle.layout.proofs.lent_number.Statement.{statement}
+use Rattle.layout.proofs.lent_number.Tie as tie
 
 returns : tie.Need-returns
 returns c =

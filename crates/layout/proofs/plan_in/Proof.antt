@@ -1,9 +1,9 @@
--- `exports::plan_in` meets its contract: three words and the 64 last minutes after them.
+-- `layout::plan_in` meets its contract: three words and the 64 last minutes after them.
 -- Assumes nothing.
-use Rattle.exports.proofs.Words.{plan-said}
+use Rattle.layout.proofs.Words.{plan-said}
 use borrow.Author.Needs.{needs}
-use Rattle.exports.proofs.plan_in.Statement.{statement}
-use Rattle.exports.proofs.plan_in.Tie as tie
+use Rattle.layout.proofs.plan_in.Statement.{statement}
+use Rattle.layout.proofs.plan_in.Tie as tie
 
 lasts-in-requires : tie.Need-lasts-in-requires
 lasts-in-requires c κs = search needs

@@ -1,4 +1,4 @@
--- `exports::put_lasts` meets its contract. The loop's invariant is `Copied`: the first i last minutes stand in the
+-- `layout::put_lasts` meets its contract. The loop's invariant is `Copied`: the first i last minutes stand in the
 -- plan's words after the three before them, the others are as they were. The measure is how many are left.
 -- Assumes nothing.
 use mathlib.Core.Path.{_≡_, refl, sym, _∙_}
@@ -7,10 +7,10 @@ use native.Mathlib.Omega.{arith}
 use lib.ListN.{length, length-map, List·getD-map}
 use Rattle.interval.specs.declared.time.Chronon.{Chronon}
 use Rattle.plan.specs.Plan.{mostPartitions, numbers}
-use Rattle.exports.specs.Exports.{planHead, planWords}
-use Rattle.exports.proofs.Words.{Copied, copied-none, copied-more, copied-length, copied-all}
-use Rattle.exports.proofs.put_lasts.Statement.{statement}
-use Rattle.exports.proofs.put_lasts.Tie as tie
+use Rattle.layout.specs.Layout.{planHead, planWords}
+use Rattle.layout.proofs.Words.{Copied, copied-none, copied-more, copied-length, copied-all}
+use Rattle.layout.proofs.put_lasts.Statement.{statement}
+use Rattle.layout.proofs.put_lasts.Tie as tie
 
 abbrev Inv-loop : tie.InvT-loop
 Inv-loop plan₀ lasts i₀ plan i = Copied plan₀ planHead (numbers lasts) i plan
@@ -24,7 +24,7 @@ many c = rw length-map (omega arith)
 
 long : (c : tie.At-loop Inv-loop μ-loop) → length (c .loop .plan) ≡ planWords
 long c =
-    copied-length (c .before .args .plan .now) planHead _ (c .loop .i) (c .loop .plan) (c .loop .inv) ∙ c .before .pre
+    copied-length (c .before .args .plan .now) planHead _ (c .loop .place) (c .loop .plan) (c .loop .inv) ∙ c .before .pre
 
 loop-holds : tie.Need-loop-holds Inv-loop μ-loop
 loop-holds c = copied-none (c .args .plan .now) planHead _ (omega (arith, many c, c .pre))
@@ -44,8 +44,8 @@ mul-plan c = omega arith
 slice-write-plan : tie.Need-slice-write-plan Inv-loop μ-loop
 slice-write-plan c = omega (arith, long (c .before .before))
 
-add-i : tie.Need-add-i Inv-loop μ-loop
-add-i c = omega arith
+add-place : tie.Need-add-place Inv-loop μ-loop
+add-place c = omega arith
 
 loop-less : tie.Need-loop-less Inv-loop μ-loop
 loop-less c = omega arith
@@ -54,9 +54,9 @@ loop-again : tie.Need-loop-again Inv-loop μ-loop
 loop-again c =
     let at = c .before .before in
     let a = at .before .args in
-    copied-more (a .plan .now) planHead (numbers (a .t1)) (at .loop .i) (planHead + at .loop .i) (at .loop .plan) _ 0
+    copied-more (a .plan .now) planHead (numbers (a .t1)) (at .loop .place) (planHead + at .loop .place) (at .loop .plan) _ 0
     (omega (arith, many (at .before))) refl
-    (sym (List·getD-map (λ (m : Chronon). m .0) (a .t1) (at .loop .i) (record { 0 = 0 })))
+    (sym (List·getD-map (λ (m : Chronon). m .0) (a .t1) (at .loop .place) (record { 0 = 0 })))
     (at .loop .inv)
 
 same-length : tie.Need-same-length Inv-loop μ-loop
@@ -65,7 +65,7 @@ same-length c = long (c .before) ∙ sym (c .before .before .pre)
 returns : tie.Need-returns Inv-loop μ-loop
 returns c =
     let at = c .before in
-    copied-all (at .before .args .plan .now) planHead (numbers (at .before .args .t1)) (at .loop .i) (at .loop .plan)
+    copied-all (at .before .args .plan .now) planHead (numbers (at .before .args .t1)) (at .loop .place) (at .loop .plan)
     (omega (arith, many (at .before))) (omega (arith, many (at .before), at .before .pre)) (at .loop .inv)
 
 pub put-lasts-spec : {M : Type 1} → statement M
@@ -80,7 +80,7 @@ put-lasts-spec =
     add-plan
     mul-plan
     slice-write-plan
-    add-i
+    add-place
     loop-less
     loop-again
     same-length
