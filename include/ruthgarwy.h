@@ -10,10 +10,12 @@
  * A slice argument is an address and a length in words. The address is not null and is aligned for uint64_t, the
  * length is what lies there, and a buffer that a call writes overlaps no other argument of that call. Nothing else
  * has to be checked before calling: every call answers for any words and any lengths. A refusal writes no word of
- * plan, stores or caches.
+ * plan, stores or caches; a plan may lie in memory that cannot be written, but for an accepted recut.
  *
- * A plan, an answer or new last minutes of another length than named here are refused with 4 before all else, and
- * then the answer's words are not written either.
+ * The answer's three words are written by every call, refused or not, that is lent exactly three; an answer of another
+ * length is not written, and the call is refused. A plan of another length than named here is refused with 4: no other
+ * check can be made. An answer or new last minutes of another length are refused with 4 too, after the plan's own
+ * checks 1 to 3 and before all others, as the stores' lengths are.
  */
 #ifndef RUTHGARWY_H
 #define RUTHGARWY_H
@@ -80,8 +82,8 @@ enum ruthgarwy_number {
     RUTHGARWY_LAST_MINUTES = 2,   /* plan: last minutes don't rise strictly or don't end at 99,999,999
                                      (also a recut's new ones, after 5) */
     RUTHGARWY_CAPACITY = 3,       /* plan: a capacity is out of its range */
-    RUTHGARWY_LENGTH = 4,         /* stores: a length isn't what the plan gives; and, before all else, a plan, an
-                                     answer or new last minutes are not of the length above */
+    RUTHGARWY_LENGTH = 4,         /* stores: a length isn't what the plan gives; a plan, an answer or new last
+                                     minutes are not of the length above */
     RUTHGARWY_UNSOUND = 5,        /* stores, not in open: a store is not sound */
     RUTHGARWY_LABEL = 6,          /* tuple: the label number is out of range (1 to 217,180,147,158) */
     RUTHGARWY_ITEM = 7,           /* tuple: the item number is above 999,999 */

@@ -27,11 +27,11 @@ EDITS = [
     ('interval/time.rt', 'if a.0 < b.0 { b } else { a }', 'if a.0 < b.0 { a } else { b }'),
     ('interval/time.rt', 'if b.0 < a.0 { b } else { a }', 'a'),
     # which lanes are looked at, and which lane a row goes to
-    ('rows/add.rt', 'while j < site.count {', 'while j <= site.at.0 {'),
-    ('rows/add.rt', 'if j < site.at.0 {\n            i = j;', 'if j < site.at.0 {\n            i = site.at.0;'),
-    ('rows/add.rt', 'let mut i = site.at.0;', 'let mut i = j;'),
-    ('rows/add.rt', 'let mut j = site.low.0;', 'let mut j = site.at.0;'),
-    ('rows/add.rt', 'let mut k: usize = 0;', 'let mut k: usize = 1;'),
+    ('addition/lib.rt', 'while j < site.count {', 'while j <= site.at.0 {'),
+    ('addition/lib.rt', 'if j < site.at.0 {\n            i = j;', 'if j < site.at.0 {\n            i = site.at.0;'),
+    ('addition/lib.rt', 'let mut i = site.at.0;', 'let mut i = j;'),
+    ('addition/lib.rt', 'let mut j = site.low.0;', 'let mut j = site.at.0;'),
+    ('addition/lib.rt', 'let mut k: usize = 0;', 'let mut k: usize = 1;'),
     ('rows/count.rt', 'tuples += part::count(', 'tuples += 0 * part::count('),
     ('rows/count.rt', 'if site.rows.capacity < held + more {', 'if site.rows.capacity <= held + more {'),
     ('rows/count.rt', 'if site.rows.capacity < held + more {', 'if site.rows.capacity < more {'),
@@ -43,14 +43,14 @@ EDITS = [
         'matches_from(side, t, other, site.tuples.words, PartitionIndex(0), site.count)',
     ),
     (
-        'rows/add.rt',
+        'addition/lib.rt',
         'added += add_part(side, t, part, rows, site.rows.words, PartitionIndex(i));',
         'added += add_part(side, t, part, rows, site.rows.words, PartitionIndex(i));\n'
         '        if j == site.at.0 {\n'
         '            add_from(side, t, part, rows, site.rows.words, PartitionIndex(i));\n'
         '        }',
     ),
-    ('rows/add.rt', 'let mut added: u64 = 0;', 'let mut added: u64 = 1;'),
+    ('addition/lib.rt', 'let mut added: u64 = 0;', 'let mut added: u64 = 1;'),
     # what is taken out
     ('removal/lib.rt', 'if stands < goes {', 'if stands < 1 {'),
     ('removal/lib.rt', 'if stands < goes {', 'if stands <= goes {'),
@@ -73,16 +73,16 @@ EDITS = [
         'let partners = store::partition(other, site.tuples.words, PartitionIndex(i));',
     ),
     # one lane
-    ('part/lib.rt', 'copy(part, width, last, k);', 'copy(part, width, last, 0);'),
-    ('part/lib.rt', 'clear(&mut part[at..end]);', ''),
-    ('part/lib.rt', 'part[0] = held - 1;', ''),
-    ('part/lib.rt', 'copy(part, width, last, k);', ''),
-    ('part/lib.rt', 'let source = 1 + width * from;', 'let source = 1 + width * to;'),
-    ('part/lib.rt', 'part[0] = tuples + 1;', 'part[0] = tuples + 2;'),
-    ('part/lib.rt', 'write_tuple(part, 1 + TUPLE_WIDTH * (tuples as usize), t);', 'write_tuple(part, 1, t);'),
+    ('records/lib.rt', 'copy(part, width, last, k);', 'copy(part, width, last, 0);'),
+    ('records/lib.rt', 'clear(&mut part[at..end]);', ''),
+    ('records/lib.rt', 'part[0] = held - 1;', ''),
+    ('records/lib.rt', 'copy(part, width, last, k);', ''),
+    ('records/lib.rt', 'let source = 1 + width * from;', 'let source = 1 + width * to;'),
+    ('records/lib.rt', 'part[0] = tuples + 1;', 'part[0] = tuples + 2;'),
+    ('records/lib.rt', 'write_tuple(part, 1 + TUPLE_WIDTH * (tuples as usize), t);', 'write_tuple(part, 1, t);'),
     ('interval/tuple.rt', 'words[at + 4] = row.valid.last.0;', 'words[at + 4] = row.valid.first.0;'),
     ('part/lib.rt', 'let mut tuple_place: usize = 0;', 'let mut tuple_place: usize = 1;'),
-    ('part/lib.rt', 'words[i] = 0;', 'words[i] = words[i] / 2;'),
+    ('records/lib.rt', 'words[i] = 0;', 'words[i] = words[i] / 2;'),
     ('part/lib.rt', 'equal_rows += 1;', 'equal_rows = 1;'),
     # the checks
     ('plan/lib.rt', 'if MOST_PARTITIONS < p.count {', 'if MOST_PARTITIONS + 1 < p.count {'),
@@ -122,8 +122,10 @@ EDITS = [
     ),
     (
         'insertion/lib.rt',
-        'let changed = rows::add::add_rows(side, t, other, site, rows);',
-        'let changed = rows::count::matches_from(side, t, other, site.tuples.words, site.low, site.count);',
+        'let changed = addition::add_rows(side, t, other, site, rows);',
+        'let changed = (site.low.0..site.count).map(|j| {\n'
+        '    rows::count::matches(side, t, store::partition(other, site.tuples.words, plan::PartitionIndex(j)))\n'
+        '}).sum();',
     ),
     ('rows/lib.rt', 'let low = plan::home(p, t.valid.first);', 'let low = plan::home(p, t.valid.last);'),
     (
@@ -134,7 +136,9 @@ EDITS = [
     (
         'deletion/lib.rt',
         'let changed = removal::take_rows(side, t, other, site, rows);',
-        'let changed = rows::count::matches_from(side, t, other, site.tuples.words, site.low, site.count);',
+        'let changed = (site.low.0..site.count).map(|j| {\n'
+        '    rows::count::matches(side, t, store::partition(other, site.tuples.words, plan::PartitionIndex(j)))\n'
+        '}).sum();',
     ),
     (
         'join/lib.rt',
@@ -146,7 +150,7 @@ EDITS = [
         'Side::Inner => change_on(kind, p, side, t, inner, outer, rows),',
         'Side::Inner => change_on(kind, p, Side::Outer, t, inner, outer, rows),',
     ),
-    ('join/lib.rt', 'part::clear(inner);', ''),
+    ('join/lib.rt', 'records::clear(inner);', ''),
     # the sweep: what it carries down, which tuples it joins, and what it counts
     ('cache/lib.rt', 'if cached.valid.first.0 <= last.0 {', 'if cached.valid.first.0 < last.0 {'),
     ('cache/lib.rt', 'if cached.valid.first.0 <= last.0 {', 'if true {'),
@@ -174,30 +178,31 @@ EDITS = [
     ('sweep/partitions.rt', 'join_run(Side::Outer, outer_cache, c, inner, rows, room, i)', '0'),
     ('sweep/partitions.rt', 'own_own + (own_cached + cached_own)', 'own_own + (own_own + (own_cached + cached_own))'),
     ('sweep/partitions.rt', 'own_own + (own_cached + cached_own)', 'own_own + own_cached'),
-    ('sweep/partitions.rt', 'part::clear(rows);', ''),
+    ('sweep/partitions.rt', 'records::clear(rows);', ''),
     ('sweep/partitions.rt', 'let last = lasts[i.0 as usize - 1];', 'let last = lasts[i.0 as usize];'),
-    ('sweep/count.rt', 'if p.rows < rows_of(', 'if p.rows <= rows_of('),
-    ('sweep/count.rt', 'let above = i.0 + 1;', 'let above = i.0;'),
-    ('join/lib.rt', 'checks::accepted(written, compared)', 'checks::accepted(compared, compared)'),
-    ('join/lib.rt', 'words < TUPLE_WIDTH * need', 'words <= TUPLE_WIDTH * need'),
-    ('join/lib.rt', 'words < TUPLE_WIDTH * need', 'words + 1 < TUPLE_WIDTH * need'),
-    ('join/lib.rt', 'if is_short(p, inner, inner_cache) {', 'if is_short(p, outer, inner_cache) {'),
-    ('join/lib.rt', '        return 14;\n    }\n    0', '        return 10;\n    }\n    0'),
-    ('join/lib.rt', 'if sweep::count::overfull(p, outer, inner) {', 'if false {'),
+    ('sweep_count/lib.rt', 'if p.rows < rows_of(', 'if p.rows <= rows_of('),
+    ('sweep_count/lib.rt', 'let above = i.0 + 1;', 'let above = i.0;'),
+    ('sweep_count/lib.rt', 'if t.valid.first.0 <= last.0 {', 'if t.valid.first.0 < last.0 {'),
+    ('sweep/partitions.rt', 'checks::accepted(written, compared)', 'checks::accepted(compared, compared)'),
+    ('sweep_count/lib.rt', 'words < TUPLE_WIDTH * need', 'words <= TUPLE_WIDTH * need'),
+    ('sweep_count/lib.rt', 'words < TUPLE_WIDTH * need', 'words + 1 < TUPLE_WIDTH * need'),
+    ('sweep_count/lib.rt', 'if is_short(p, inner, inner_cache) {', 'if is_short(p, outer, inner_cache) {'),
+    ('sweep_count/lib.rt', '        return 14;\n    }\n    0', '        return 10;\n    }\n    0'),
+    ('sweep_count/lib.rt', 'if overfull(p, outer, inner) {', 'if false {'),
     (
-        'join/lib.rt',
+        'sweep_count/lib.rt',
         'if is_short(p, outer, outer_cache) {',
-        'if sweep::count::overfull(p, outer, inner) {\n        return 10;\n    }\n    if is_short(p, outer, outer_cache) {',
+        'if overfull(p, outer, inner) {\n        return 10;\n    }\n    if is_short(p, outer, outer_cache) {',
     ),
     (
         'join/lib.rt',
         'if space != 0 {\n        return checks::refused(space);',
-        'if space != 0 {\n        part::clear(outer_cache);\n        return checks::refused(space);',
+        'if space != 0 {\n        records::clear(outer_cache);\n        return checks::refused(space);',
     ),
     (
         'join/lib.rt',
         'if space != 0 {\n        return checks::refused(space);',
-        'if space != 0 {\n        part::clear(rows);\n        return checks::refused(space);',
+        'if space != 0 {\n        records::clear(rows);\n        return checks::refused(space);',
     ),
     # the repartition
     ('join/lib.rt', 'plan: next,', 'plan: p,'),
@@ -205,8 +210,8 @@ EDITS = [
     ('plan/lib.rt', 'let mut i: u64 = 0;\n    while i < places {', 'let mut i: u64 = 1;\n    while i < places {'),
     ('join/lib.rt', 'if !plan::covers(p.count, new) {', 'if false {'),
     ('join/lib.rt', '        return 2;', '        return 13;'),
-    ('join/lib.rt', 'if !is_empty(outer, room, p.count) {', 'if false {'),
-    ('join/lib.rt', 'if !is_empty(inner, room, p.count) {', 'if false {'),
+    ('checks/lib.rt', 'if !is_empty(outer, room, p.count) {', 'if false {'),
+    ('checks/lib.rt', 'if !is_empty(inner, room, p.count) {', 'if false {'),
     (
         'join/lib.rt',
         'answer: checks::refused(number),\n            plan: p,',
@@ -215,8 +220,8 @@ EDITS = [
     (
         'join/lib.rt',
         'if !plan::covers(p.count, new) {\n        return 2;\n    }\n'
-        '    if !is_empty_wall(p, outer, inner, rows) {\n        return 13;\n    }',
-        'if !is_empty_wall(p, outer, inner, rows) {\n        return 13;\n    }\n'
+        '    if !checks::is_empty_wall(p, outer, inner, rows) {\n        return 13;\n    }',
+        'if !checks::is_empty_wall(p, outer, inner, rows) {\n        return 13;\n    }\n'
         '    if !plan::covers(p.count, new) {\n        return 2;\n    }',
     ),
     # the calls: a refusal that writes, and rows that are put in another order in lanes that are not concerned
@@ -228,17 +233,19 @@ EDITS = [
     ),
     (
         'insertion/lib.rt',
-        'let changed = rows::add::add_rows(side, t, other, site, rows);',
-        'let changed = rows::add::add_rows(side, t, other, site, rows);\n'
+        'let changed = addition::add_rows(side, t, other, site, rows);',
+        'let changed = addition::add_rows(side, t, other, site, rows);\n'
         'if rows[0] > 1 && site.at.0 > 0 && site.low.0 > 0 {\n    for f in 1..6 {\n        rows.swap(f, f + 5);\n    }\n}',
     ),
     # the calls: their counts
     ('checks/lib.rt', 'changed: 0,', 'changed: number,'),
     (
         'insertion/lib.rt',
-        'let changed = rows::add::add_rows(side, t, other, site, rows);',
-        'let changed = rows::count::matches_from(side, t, other, site.tuples.words, site.at, site.count);\n'
-        'rows::add::add_rows(side, t, other, site, rows);',
+        'let changed = addition::add_rows(side, t, other, site, rows);',
+        'let changed = (site.at.0..site.count).map(|j| {\n'
+        '    rows::count::matches(side, t, store::partition(other, site.tuples.words, plan::PartitionIndex(j)))\n'
+        '}).sum();\n'
+        'addition::add_rows(side, t, other, site, rows);',
     ),
     (
         'insertion/lib.rt',

@@ -23,7 +23,7 @@ stop() {
 trap stop EXIT
 
 cd "$root"
-rt staticlib exports >"$room/build.out" 2>&1 || { tail -n 30 "$room/build.out" >&2; exit 1; }
+bash tests/library.sh
 
 flags= libraries= sources="main.c library.c by_hand.c loops.c hash.c"
 as= sqlite=

@@ -1,5 +1,5 @@
 #!/bin/bash
-# Proves and builds the static library, compiles host.c with it, and runs that.
+# Proves and builds the static library, if that is needed, compiles host.c with it, and runs that.
 # Works from any folder. Needs rt and a C compiler: that which CC names, else cc.
 set -eu
 
@@ -9,6 +9,6 @@ room=$(mktemp -d)
 trap 'rm -rf "$room"' EXIT
 
 cd "$root"
-rt staticlib exports >"$room/build.out" 2>&1 || { tail -n 30 "$room/build.out" >&2; exit 1; }
+bash tests/library.sh
 ${CC:-cc} -std=c11 -Wall -Wextra -O2 -I "$root/include" -o "$room/host" "$here/host.c" target/staticlib/libexports.a
 "$room/host"

@@ -15,6 +15,6 @@ room=$(mktemp -d)
 trap 'rm -rf "$room"' EXIT
 
 cd "$root"
-rt staticlib exports >"$room/build.out" 2>&1 || { tail -n 30 "$room/build.out" >&2; exit 1; }
+bash tests/library.sh
 rustc --edition 2021 -O -L target/staticlib -o "$room/differential" "$here/main.rs"
 ${VALGRIND:+valgrind -q --error-exitcode=9} "$room/differential" "${1:-100000}" "${2:-1}" ${GUARD:+guard}

@@ -1,2 +1,3 @@
--- The laws of checks.
+-- The laws of this crate.
 pub mod Checks
+pub mod Empty

@@ -1,2 +1,3 @@
--- The definitions of this crate.
+-- The definitions of this crate, in a reader's order.
 pub mod Stores
+pub mod Empty

@@ -33,7 +33,8 @@ pub extern "C" fn ruthgarwy_open(
     if refusal != 0 {
         return layout::tell(checks::refused(refusal), answer);
     }
-    let a = join::open(layout::plan_in(plan), outer, inner, rows);
+    let p = layout::plan_in(plan);
+    let a = join::open(p, outer, inner, rows);
     layout::tell(a, answer)
 }
 
@@ -56,7 +57,8 @@ fn change(
     if refusal != 0 {
         return layout::tell(checks::refused(refusal), answer);
     }
-    let a = join::change(kind, layout::plan_in(plan), side, t, outer, inner, rows);
+    let p = layout::plan_in(plan);
+    let a = join::change(kind, p, side, t, outer, inner, rows);
     layout::tell(a, answer)
 }
 
@@ -142,14 +144,8 @@ pub extern "C" fn ruthgarwy_sweep(
     if refusal != 0 {
         return layout::tell(checks::refused(refusal), answer);
     }
-    let a = join::sweep(
-        layout::plan_in(plan),
-        outer,
-        inner,
-        rows,
-        outer_cache,
-        inner_cache,
-    );
+    let p = layout::plan_in(plan);
+    let a = join::sweep(p, outer, inner, rows, outer_cache, inner_cache);
     layout::tell(a, answer)
 }
 
@@ -172,19 +168,14 @@ pub extern "C" fn ruthgarwy_repartition(
     if refusal != 0 {
         return layout::tell(checks::refused(refusal), answer);
     }
-    let new = join::repartition(
-        layout::plan_in(plan),
-        layout::lasts_in(cuts, 0),
-        outer,
-        inner,
-        rows,
-    );
+    let p = layout::plan_in(plan);
+    let new = join::repartition(p, layout::lasts_in(cuts, 0), outer, inner, rows);
     let a = new.answer;
     if a.number != 0 {
         return layout::tell(a, answer);
     }
-    let p = new.plan;
-    let lasts = p.lasts;
+    let next = new.plan;
+    let lasts = next.lasts;
     layout::put_lasts(lasts, plan);
     layout::tell(a, answer)
 }

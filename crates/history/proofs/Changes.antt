@@ -11,7 +11,7 @@ use Rattle.lists.proofs.Same.{same-refl, same-append}
 use Rattle.interval.specs.Tuple.{to, tupleNumber, sameRow}
 use Rattle.interval.specs.declared.tuple.Tuple.{Tuple}
 use Rattle.interval.proofs.Tuples.{legal-tuple, valid-ok}
-use Rattle.plan.specs.Plan.{planNumber, cutsOf, home}
+use Rattle.plan.specs.Plan.{mostPartitions, planNumber, cutsOf, home}
 use Rattle.plan.specs.declared.Partitioning.{Partitioning}
 use Rattle.plan.proofs.Homes.{legal-plan, home-within, length-cuts}
 use Rattle.store.specs.Store.{storedTuples}
@@ -25,7 +25,8 @@ use Rattle.history.proofs.Held.{TupleStore, joinFrom, join-from-more}
 
 -- ---- a legal tuple belongs to one of the plan's partitions
 
-pub home-in-plan : (p : Partitioning) → planNumber p ≡ 0 → length (p .lasts) ≡ 64 → (t : Tuple) → tupleNumber t ≡ 0
+pub home-in-plan : (p : Partitioning) → planNumber p ≡ 0 → length (p .lasts) ≡ mostPartitions → (t : Tuple)
+    → tupleNumber t ≡ 0
     → home p (to t) < p .count
 unfolding home
 home-in-plan p legal places t e =
@@ -55,7 +56,7 @@ join-made p side t ts us other h =
     (λ q. sym (made-held p side t other us h q)) r
 
 -- a partition that shares no chronon with the tuple gains nothing
-pub untouched : (p : Partitioning) → planNumber p ≡ 0 → length (p .lasts) ≡ 64 → (side : Side) (t : Tuple)
+pub untouched : (p : Partitioning) → planNumber p ≡ 0 → length (p .lasts) ≡ mostPartitions → (side : Side) (t : Tuple)
     (other ws ws′ : List ℕ) → Grown p ws (made p side t other) ws′ → Untouched p t ws ws′
 unfolding made
 untouched p legal places side t other ws ws′ g i l e =

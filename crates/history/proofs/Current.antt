@@ -10,7 +10,7 @@ use lib.Dec.{eqb}
 use lib.ListN.{length}
 use borrow.Author.Tests.{eqb-true, eqb-false}
 use Rattle.lists.proofs.Choice.{bool-cases}
-use Rattle.plan.specs.Plan.{planNumber}
+use Rattle.plan.specs.Plan.{mostPartitions, planNumber}
 use Rattle.plan.specs.declared.Partitioning.{Partitioning}
 use Rattle.rows.proofs.Joins.{join-empty-left}
 use Rattle.checks.specs.Stores.{Stores}
@@ -34,7 +34,8 @@ use Rattle.history.proofs.Repartitions.{repartition-done}
 abbrev pub first : Partitioning → Machine
 first p = record { plan = p; outer = []; inner = [] }
 
-pub opened-kept : (p : Partitioning) → length (p .lasts) ≡ 64 → planNumber p ≡ 0 → (s s₀ : Stores) (a : Answer)
+pub opened-kept : (p : Partitioning) → length (p .lasts) ≡ mostPartitions → planNumber p ≡ 0
+    → (s s₀ : Stores) (a : Answer)
     → Opened p s s₀ a → a .number ≡ 0 → Kept (first p) p s₀
 opened-kept p places legal s s₀ a o z =
     let f = fitting p (length (s .outer)) (length (s .inner)) (length (s .rows)) (sym (o .number) ∙ z) in

@@ -12,7 +12,7 @@ use lib.ListN.{length}
 use borrow.Author.Tests.{eq-eqb, ne-eqb}
 use Rattle.lists.proofs.Choice.{pick-true, pick-false}
 use Rattle.interval.specs.declared.tuple.Tuple.{Tuple}
-use Rattle.plan.specs.Plan.{planNumber}
+use Rattle.plan.specs.Plan.{mostPartitions, planNumber}
 use Rattle.plan.specs.declared.Partitioning.{Partitioning}
 use Rattle.store.specs.Store.{fitsTuples, fitsRows, soundTuples, soundRows}
 use Rattle.store.proofs.StoreLoops.{given-tuples, given-rows}
@@ -28,7 +28,7 @@ use Rattle.history.proofs.Held.{TupleStore, RowStore, Wall, tuples-held
 
 pub record Kept (m : Machine) (p : Partitioning) (s : Stores) : Type 0 where
   pub in-force : p ≡ m .plan
-  pub places : length (p .lasts) ≡ 64
+  pub places : length (p .lasts) ≡ mostPartitions
   pub legal : planNumber p ≡ 0
   pub outer : TupleStore p (s .outer) (m .outer)
   pub inner : TupleStore p (s .inner) (m .inner)
@@ -106,7 +106,7 @@ pub record Done (m : Machine) (p : Partitioning) (s : Stores) (c : Call) (n : �
 
 -- what the machine makes of an accepted call, and of a refused one
 pub told-accepted : (c : Call) (n : ℕ) (m : Machine) → n ≡ 0 → told (record { call = c; number = n }) m ≡ accept c m
-told-accepted c n m e = pick-true (eqb n 0) (accept c m) (some m) (eq-eqb n 0 e)
+told-accepted c n m e = pick-true (eqb n 0) (accept c m) _ (eq-eqb n 0 e)
 
 pub told-refused : (c : Call) (n : ℕ) (m : Machine) → (n ≡ 0 → ⊥) → told (record { call = c; number = n }) m ≡ some m
 told-refused c n m ne = pick-false (eqb n 0) (accept c m) (some m) (ne-eqb n 0 ne)

@@ -23,7 +23,7 @@ use Rattle.interval.specs.Tuple.{tupleWidth, tupleOf, rowWidth, rowOf, sameTupl
 use Rattle.interval.specs.declared.time.Chronon.{Chronon}
 use Rattle.interval.specs.declared.tuple.Tuple.{Tuple}
 use Rattle.interval.specs.declared.tuple.Row.{Row}
-use Rattle.plan.specs.Plan.{numbers, cutsOf, cover, planNumber, withCuts}
+use Rattle.plan.specs.Plan.{mostPartitions, numbers, cutsOf, cover, planNumber, withCuts}
 use Rattle.plan.specs.declared.Partitioning.{Partitioning}
 use Rattle.plan.proofs.Homes.{legal-plan, plan-legal}
 use Rattle.part.specs.Part.{counted, soundPart, tuplesIn}
@@ -35,7 +35,8 @@ use Rattle.rows.specs.Join.{joinOf}
 use Rattle.rows.proofs.Joins.{join-same, join-empty-left, rows-at-same}
 use Rattle.checks.specs.Stores.{Stores, storeNumber}
 use Rattle.checks.specs.declared.Answer.{Answer}
-use Rattle.join.specs.Repartitioning.{emptyStore, emptyWall, repartitionNumber, Repartitioned}
+use Rattle.checks.specs.Empty.{emptyStore, emptyWall}
+use Rattle.join.specs.Repartitioning.{repartitionNumber, Repartitioned}
 use Rattle.history.specs.Machine.{repartition, Machine}
 use Rattle.history.proofs.Held.{TupleStore, RowStore}
 use Rattle.history.proofs.Kept.{Kept, Done, told-accepted, done-refused}
@@ -47,9 +48,10 @@ numbers-take zero ms = refl
 numbers-take (suc n) [] = refl
 numbers-take (suc n) (m ∷ ms) = rw (numbers-take n ms)
 
-module _ (p : Partitioning) (new : List Chronon) (long : length new ≡ 64) (places : length (p .lasts) ≡ 64)
+module _ (p : Partitioning) (new : List Chronon) (long : length new ≡ mostPartitions) (places : length
+    (p .lasts) ≡ mostPartitions)
     (legal : planNumber p ≡ 0) where
-  few : p .count ≤ 64
+  few : p .count ≤ mostPartitions
   few = legal-plan p legal .most
 
   -- its cuts are the new ones
@@ -62,7 +64,7 @@ module _ (p : Partitioning) (new : List Chronon) (long : length new ≡ 64) (pla
       ∙ length-take-le (p .count) new (omega (arith, few)))
       ∙ numbers-take (p .count) new
 
-  pub with-cuts-places : length (withCuts p new .lasts) ≡ 64
+  pub with-cuts-places : length (withCuts p new .lasts) ≡ mostPartitions
   unfolding withCuts
   with-cuts-places =
       omega (
@@ -181,7 +183,7 @@ all-empty p s e =
     }
 
 module _ (m : Machine) (p p′ : Partitioning) (new : List Chronon) (s s′ : Stores) (a : Answer) (k : Kept m p s)
-    (long : length new ≡ 64) (called : Repartitioned p new s s′ a p′) where
+    (long : length new ≡ mostPartitions) (called : Repartitioned p new s s′ a p′) where
   abbrev with-cuts : Machine
   with-cuts = record { plan = withCuts (m .plan) new; outer = m .outer; inner = m .inner }
 

@@ -11,7 +11,7 @@ use Rattle.plan.specs.declared.Partitioning.{Partitioning}
 use Rattle.store.specs.Store.{storedTuples}
 use Rattle.rows.specs.Join.{joinOf}
 use Rattle.rows.proofs.Joins.{join-same}
-use Rattle.sweep.specs.Pairs.{joined}
+use Rattle.sweep_count.specs.Pairs.{joined}
 use Rattle.checks.specs.Stores.{Stores}
 use Rattle.checks.specs.declared.Answer.{Answer}
 use Rattle.join.specs.Sweeps.{Swept}

@@ -7,8 +7,8 @@ use mathlib.Core.Path.{_≡_, refl}
 use Prim.Native.Nat.{ℕ, _+_, _-_, _*_}
 use lib.ListN.{length, replicate}
 use Rattle.lists.specs.Members.{gather, without, below}
+use Rattle.label.specs.Label.{rank, labelNumber}
 use Rattle.interval.specs.Time.{span, overlap}
-use Rattle.interval.specs.Label.{rank, labelNumber}
 use Rattle.interval.specs.Tuple.{tuple, sameLabel, sameInterval, sameTuple, rowWords}
 use Rattle.interval.specs.declared.time.Interval.{Interval}
 use Rattle.interval.specs.declared.tuple.Tuple.{Tuple}
@@ -18,7 +18,7 @@ use Rattle.plan.specs.declared.Partitioning.{Partitioning}
 use Rattle.part.specs.Part.{counted, recordsIn, tuplesIn, appended}
 use Rattle.store.specs.Store.{tupleRoom, storedTuples, rowsAt}
 use Rattle.rows.specs.Join.{rowsOfPair, joinOf}
-use Rattle.sweep.specs.Pairs.{meet, pairsOf, joined}
+use Rattle.sweep_count.specs.Pairs.{meet, pairsOf, joined}
 use Rattle.insertion.specs.Inserts.{inserted}
 
 -- ---- how a case is written

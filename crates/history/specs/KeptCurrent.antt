@@ -10,7 +10,7 @@ use Rattle.plan.specs.Plan.{planNumber}
 use Rattle.plan.specs.declared.Partitioning.{Partitioning}
 use Rattle.store.specs.Store.{rowPart, TuplesHeld, RowsHeld}
 use Rattle.rows.specs.Join.{joinOf}
-use Rattle.sweep.specs.Pairs.{touches}
+use Rattle.sweep_count.specs.Pairs.{touches}
 use Rattle.checks.specs.Stores.{Stores, fits, sound}
 use Rattle.checks.specs.declared.Answer.{Answer}
 use Rattle.join.specs.Opening.{Opened}

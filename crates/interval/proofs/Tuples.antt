@@ -17,8 +17,8 @@ use Rattle.lists.specs.Words.{partAt}
 use Rattle.lists.proofs.Choice.{and-left, and-right, and-both, or-none, or-neither-left, or-neither-right}
 use Rattle.lists.proofs.Choice.{refuse-none, refuse-passed, first-none}
 use Rattle.lists.proofs.Parts.{reads-part}
+use Rattle.label.specs.Label.{labelCheck}
 use Rattle.interval.specs.Time.{calendarEnd}
-use Rattle.interval.specs.Label.{labelCheck}
 use Rattle.interval.specs.Tuple.{tupleWidth, tupleOf, tupleWords, rowWidth, rowOf, rowWords}
 use Rattle.interval.specs.Tuple.{itemCheck, validCheck, tupleNumber, legalTuple, rowNumber, legalRow}
 use Rattle.interval.specs.Tuple.{sameInterval, sameTuple, sameRow}

@@ -1,4 +1,3 @@
 -- The definitions of this crate, in a reader's order.
 pub mod Time
-pub mod Label
 pub mod Tuple

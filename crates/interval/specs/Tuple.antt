@@ -6,8 +6,8 @@ use Prim.Native.Nat.{ℕ}
 use lib.ListN.{getD}
 use lib.Dec.{ltb, eqb}
 use Rattle.lists.specs.Choice.{refuseIf, firstOf}
+use Rattle.label.specs.Label.{labelCheck}
 use Rattle.interval.specs.Time.{calendarEnd, span}
-use Rattle.interval.specs.Label.{labelCheck}
 use Rattle.interval.specs.declared.time.Interval.{Interval}
 use Rattle.interval.specs.declared.tuple.Tuple.{Tuple}
 use Rattle.interval.specs.declared.tuple.Row.{Row}

@@ -1,18 +1,13 @@
-// Tuples and rows: their words, read and written; their checks 6 to 8; their equality. No order of calls, no cost
-// beyond a record's words or a few comparisons. No other file knows where a word of a tuple or of a row stands.
+// Tuples and rows: their checks 6 to 8; their equality. No order of calls, no cost beyond a few comparisons. Their
+// words are read and written by the crate `encoding`.
 ghost use mathlib.Core.Path.{_≡_};
-ghost use Prim.Native.Nat.{_+_, _≤_};
-ghost use lib.ListN.{length};
-ghost use lib.Seq.{sets};
-ghost use Rattle.lists.specs.Words.{partAt};
-ghost use Rattle.interval.specs.Label.{labelCheck};
-ghost use Rattle.interval.specs.Tuple.{tupleWidth, tupleOf, tupleWords, rowWidth, rowOf, rowWords};
+ghost use Rattle.label.specs.Label.{labelCheck};
 ghost use Rattle.interval.specs.Tuple.{itemCheck, validCheck, tupleNumber, rowNumber, sameLabel, sameInterval};
 ghost use Rattle.interval.specs.Tuple.{sameTuple, sameRow};
-use crate::label::LABEL_END;
 use crate::time::CALENDAR_END;
 use crate::time::Chronon;
 use crate::time::Interval;
+use label::LABEL_END;
 
 // The largest item number.
 pub const ITEM_END: u64 = 999_999;
@@ -35,60 +30,6 @@ pub struct Row {
     pub outer: u64,
     pub inner: u64,
     pub valid: Interval,
-}
-
-// The tuple whose words stand from place `at` on.
-pub fn read_tuple(words: &[u64], at: usize) -> Tuple
-    requires { ⌜ at + tupleWidth ≤ length (now words) ⌝ }
-    ensures { λ r. ⌜ r ≡ tupleOf (partAt at tupleWidth (now (words .entry))) ⌝ }
-{
-    Tuple {
-        label: words[at],
-        item: words[at + 1],
-        valid: Interval {
-            first: Chronon(words[at + 2]),
-            last: Chronon(words[at + 3]),
-        },
-    }
-}
-
-// Writes a tuple's words from place `at` on.
-pub fn write_tuple(words: &mut [u64], at: usize, t: Tuple)
-    requires { ⌜ at + tupleWidth ≤ length (now words) ⌝ }
-    ensures { λ _. ⌜ now (words .exit) ≡ sets (now (words .entry)) at (tupleWords t) ⌝ }
-{
-    words[at] = t.label;
-    words[at + 1] = t.item;
-    words[at + 2] = t.valid.first.0;
-    words[at + 3] = t.valid.last.0;
-}
-
-// The row whose words stand from place `at` on.
-pub fn read_row(words: &[u64], at: usize) -> Row
-    requires { ⌜ at + rowWidth ≤ length (now words) ⌝ }
-    ensures { λ r. ⌜ r ≡ rowOf (partAt at rowWidth (now (words .entry))) ⌝ }
-{
-    Row {
-        label: words[at],
-        outer: words[at + 1],
-        inner: words[at + 2],
-        valid: Interval {
-            first: Chronon(words[at + 3]),
-            last: Chronon(words[at + 4]),
-        },
-    }
-}
-
-// Writes a row's words from place `at` on.
-pub fn write_row(words: &mut [u64], at: usize, row: Row)
-    requires { ⌜ at + rowWidth ≤ length (now words) ⌝ }
-    ensures { λ _. ⌜ now (words .exit) ≡ sets (now (words .entry)) at (rowWords row) ⌝ }
-{
-    words[at] = row.label;
-    words[at + 1] = row.outer;
-    words[at + 2] = row.inner;
-    words[at + 3] = row.valid.first.0;
-    words[at + 4] = row.valid.last.0;
 }
 
 fn label_check(label: u64) -> u64

@@ -1,6 +1,6 @@
 // Label fields: every single byte, every two bytes, and rows of the letter Z of each length from 0 to 10.
 use crate::report;
-use interval::label::LabelField;
+use label::LabelField;
 
 struct Counts {
     cases: u64,
@@ -9,21 +9,31 @@ struct Counts {
     refused: u64,
 }
 
-// One field more. `wanted` is the number of the label that it is, or 0 if it is none.
-fn count(n: Counts, wanted: u64, answer: LabelField) -> Counts {
+// Whether the crate takes the field for a label.
+fn is_label(answer: LabelField) -> bool {
     match answer {
-        LabelField::Number(number) => Counts {
-            cases: report::more(n.cases),
-            wrong: report::more_unless(0 < number && number == wanted, n.wrong),
-            accepted: report::more(n.accepted),
-            refused: n.refused,
-        },
-        LabelField::Malformed => Counts {
-            cases: report::more(n.cases),
-            wrong: report::more_unless(wanted == 0, n.wrong),
-            accepted: n.accepted,
-            refused: report::more(n.refused),
-        },
+        LabelField::Number(_) => true,
+        LabelField::Malformed => false,
+    }
+}
+
+// The number of the label, or 0 if the field is none.
+fn number_in(answer: LabelField) -> u64 {
+    match answer {
+        LabelField::Number(number) => number,
+        LabelField::Malformed => 0,
+    }
+}
+
+// One field more. `wanted` is the number of the label that it is, or 0 if it is none; no label has the number 0.
+fn count(n: Counts, wanted: u64, answer: LabelField) -> Counts {
+    let label = is_label(answer);
+    let number = number_in(answer);
+    Counts {
+        cases: report::more(n.cases),
+        wrong: report::more_unless((label == (0 < number)) & (number == wanted), n.wrong),
+        accepted: report::more_unless(!label, n.accepted),
+        refused: report::more_unless(label, n.refused),
     }
 }
 
@@ -59,7 +69,7 @@ fn place(b: u8) -> u64 {
 
 fn one_byte(n: Counts, b: u8) -> Counts {
     let field = [b];
-    count(n, place(b), interval::label::read_label(&field))
+    count(n, place(b), label::read_label(&field))
 }
 
 fn all_bytes() -> Counts {
@@ -101,7 +111,7 @@ fn two_bytes(n: Counts, first: u8, second: u8) -> Counts {
     count(
         n,
         number_of_two(place(first), place(second)),
-        interval::label::read_label(&field),
+        label::read_label(&field),
     )
 }
 
@@ -138,7 +148,7 @@ fn number_of_z(length: usize) -> u64 {
 
 fn read_first(bytes: &[u8], length: usize) -> LabelField {
     if length <= bytes.len() {
-        interval::label::read_label(&bytes[0..length])
+        label::read_label(&bytes[0..length])
     } else {
         LabelField::Malformed
     }

@@ -21,10 +21,7 @@ struct Labels {
 
 // One wheel: a letter moves on by one, and Z goes round to A and takes the next wheel with it.
 fn turn(t: Turning, wheel: usize, count: usize) -> Turning {
-    if !t.carry {
-        return t;
-    }
-    if count <= wheel {
+    if !t.carry | (count <= wheel) {
         return t;
     }
     if 8 <= wheel {
@@ -79,7 +76,7 @@ fn tick(o: Odometer) -> Odometer {
 
 // The letters of the number are these bytes and no more.
 fn spells(number: u64, o: Odometer) -> bool {
-    let l = interval::label::letters_of(number);
+    let l = label::letters_of(number);
     let letters = l.bytes;
     let shown = o.bytes;
     if l.count != o.count as u64 {
@@ -91,7 +88,7 @@ fn spells(number: u64, o: Odometer) -> bool {
 // The number of the first `count` of the bytes, 0 if there are not so many.
 fn number_of_first(bytes: &[u8], count: usize) -> u64 {
     if count <= bytes.len() {
-        interval::label::label_number(&bytes[0..count])
+        label::label_number(&bytes[0..count])
     } else {
         0
     }

@@ -18,31 +18,16 @@ struct Counts {
 }
 
 fn lies_in(minute: u64, span: Interval) -> bool {
-    if minute < span.first.0 {
-        return false;
-    }
-    minute <= span.last.0
+    (span.first.0 <= minute) & (minute <= span.last.0)
 }
 
 // The walk one minute on.
 fn step(w: Seen, a: Interval, b: Interval, minute: u64) -> Seen {
-    if !lies_in(minute, a) {
-        return w;
-    }
-    if !lies_in(minute, b) {
-        return w;
-    }
-    if w.found == 0 {
-        return Seen {
-            found: 1,
-            first: minute,
-            last: minute,
-        };
-    }
+    let both = lies_in(minute, a) & lies_in(minute, b);
     Seen {
-        found: report::more(w.found),
-        first: w.first,
-        last: minute,
+        found: report::more_unless(!both, w.found),
+        first: report::either(both & (w.found == 0), minute, w.first),
+        last: report::either(both, minute, w.last),
     }
 }
 
@@ -65,10 +50,7 @@ fn saw(w: Seen, span: Interval) -> bool {
     if w.found == 0 {
         return false;
     }
-    if w.first != span.first.0 {
-        return false;
-    }
-    if w.last != span.last.0 {
+    if (w.first != span.first.0) | (w.last != span.last.0) {
         return false;
     }
     if w.last < w.first {
@@ -77,18 +59,26 @@ fn saw(w: Seen, span: Interval) -> bool {
     w.last - w.first == w.found - 1
 }
 
-fn count(n: Counts, w: Seen, answer: Overlap) -> Counts {
+// The answer is what the walk saw.
+fn agrees(w: Seen, answer: Overlap) -> bool {
     match answer {
-        Overlap::Common(span) => Counts {
-            cases: report::more(n.cases),
-            wrong: report::more_unless(saw(w, span), n.wrong),
-            common: report::more(n.common),
-        },
-        Overlap::Nothing => Counts {
-            cases: report::more(n.cases),
-            wrong: report::more_unless(w.found == 0, n.wrong),
-            common: n.common,
-        },
+        Overlap::Common(span) => saw(w, span),
+        Overlap::Nothing => w.found == 0,
+    }
+}
+
+fn is_common(answer: Overlap) -> bool {
+    match answer {
+        Overlap::Common(_) => true,
+        Overlap::Nothing => false,
+    }
+}
+
+fn count(n: Counts, w: Seen, answer: Overlap) -> Counts {
+    Counts {
+        cases: report::more(n.cases),
+        wrong: report::more_unless(agrees(w, answer), n.wrong),
+        common: report::more_unless(!is_common(answer), n.common),
     }
 }
 

@@ -11,6 +11,11 @@ pub(crate) fn more_unless(good: bool, n: u64) -> u64 {
     if good { n } else { more(n) }
 }
 
+// The one number or the other.
+pub(crate) fn either(first: bool, a: u64, b: u64) -> u64 {
+    if first { a } else { b }
+}
+
 pub(crate) fn name(text: &[u8]) {
     io::write_all(STDOUT_FILENO, text);
 }

@@ -45,24 +45,11 @@ fn minute(k: u64) -> u64 {
 
 // The rule: each condition is decided by itself, and of those that hold the one with the smallest number is left.
 fn rule(t: Tuple) -> u64 {
-    let no_label = t.label == 0 || t.label >= 217_180_147_159;
+    let no_label = (t.label == 0) | (t.label >= 217_180_147_159);
     let no_item = t.item >= 1_000_000;
-    let no_span = t.valid.first.0 > t.valid.last.0 || t.valid.last.0 >= 100_000_000;
-    let mut answer = 0;
-    if no_span {
-        answer = 8;
-    }
-    if no_item {
-        answer = 7;
-    }
-    if no_label {
-        answer = 6;
-    }
-    answer
-}
-
-fn more_if(yes: bool, n: u64) -> u64 {
-    if yes { report::more(n) } else { n }
+    let no_span = (t.valid.first.0 > t.valid.last.0) | (t.valid.last.0 >= 100_000_000);
+    let span = report::either(no_span, 8, 0);
+    report::either(no_label, 6, report::either(no_item, 7, span))
 }
 
 // The tuple with this number, of 5 * 4 * 6 * 6.
@@ -79,10 +66,10 @@ fn one_tuple(n: Counts, k: u64) -> Counts {
     Counts {
         cases: report::more(n.cases),
         wrong: report::more_unless(answer == rule(t), n.wrong),
-        legal: more_if(answer == 0, n.legal),
-        sixes: more_if(answer == 6, n.sixes),
-        sevens: more_if(answer == 7, n.sevens),
-        eights: more_if(answer == 8, n.eights),
+        legal: report::more_unless(answer != 0, n.legal),
+        sixes: report::more_unless(answer != 6, n.sixes),
+        sevens: report::more_unless(answer != 7, n.sevens),
+        eights: report::more_unless(answer != 8, n.eights),
     }
 }
 

@@ -2,6 +2,8 @@
 use crate::digest;
 use crate::draws;
 use crate::plans;
+use crate::stores;
+use crate::stores::Stores;
 use crate::sweeps;
 use crate::sweeps::Caches;
 use crate::total;
@@ -9,6 +11,7 @@ use crate::tuples;
 use interval::time::Chronon;
 use interval::tuple::Tuple;
 use join::Answer;
+use plan::PLACES;
 use plan::Partitioning;
 use rows::Side;
 
@@ -29,22 +32,23 @@ pub(crate) struct Call {
     pub(crate) side: u64,
     pub(crate) tuple: Tuple,
     pub(crate) caches: Caches,
-    pub(crate) cuts: [Chronon; 64],
+    pub(crate) cuts: [Chronon; PLACES],
 }
 
-// What a call left beside the wall's stores: its answer, the plan in force after it, and a digest of the rest.
+// What a call left: its answer, the plan in force after it, the wall's stores, and a digest of the rest.
 pub(crate) struct Left {
     pub(crate) answer: Answer,
     pub(crate) plan: Partitioning,
     pub(crate) more: u64,
+    pub(crate) stores: Stores,
 }
 
 pub(crate) fn lengths_of(p: Partitioning) -> Lengths {
-    let tuples = total::times(p.count, plans::tuple_room(p));
+    let tuples = total::times(p.count, stores::room(4, p.tuples));
     Lengths {
         outer: tuples,
         inner: tuples,
-        rows: total::times(p.count, plans::row_room(p)),
+        rows: total::times(p.count, stores::room(5, p.rows)),
     }
 }
 
@@ -67,57 +71,37 @@ fn side(k: u64) -> Side {
     if k < 1 { Side::Outer } else { Side::Inner }
 }
 
-// The kind of a call that is not disturbed. An open is rare, since it empties the wall.
-fn plain_kind(k: u64) -> u64 {
-    match k {
-        0..=1 => 0,
-        2..=5 => 4,
-        6..=17 => 3,
-        18..=81 => 1,
-        _ => 2,
-    }
+// The kind of a call by a draw of 128, with the draw at which each kind ends.
+fn kind_by(k: u64, open: u64, repartition: u64, sweep: u64, insert: u64) -> u64 {
+    let change = total::either(k < insert, 1, 2);
+    let later = total::either(k < repartition, 4, total::either(k < sweep, 3, change));
+    total::either(k < open, 0, later)
 }
 
-fn disturbed_kind(k: u64) -> u64 {
-    match k {
-        0..=13 => 0,
-        14..=27 => 4,
-        28..=51 => 3,
-        52..=73 => 1,
-        _ => 2,
-    }
-}
-
-// The kind of a call. In the first steps after an open, when a wall is often empty, many are repartitions.
+// The kind of a call. In the first steps after an open, when a wall is often empty, many are repartitions. An open that
+// is not disturbed is rare, since it empties the wall.
 fn kind_of(k: u64, disturbed: bool, age: u64) -> u64 {
-    if age < 3 {
-        if k < 40 {
-            return 4;
-        }
-    }
-    if disturbed {
-        return disturbed_kind(k);
-    }
-    plain_kind(k)
+    let drawn = total::either(
+        disturbed,
+        kind_by(k, 14, 28, 52, 74),
+        kind_by(k, 2, 6, 18, 82),
+    );
+    total::either(k < total::either(age < 3, 40, 0), 4, drawn)
 }
 
 // The kind of a step's call. One sweep in four is one aside.
 pub(crate) fn kind(d: &[u64], disturbed: bool, age: u64) -> u64 {
     let drawn = kind_of(draws::pick(d, 0, 128), disturbed, age);
-    if drawn == 3 {
-        if draws::pick(d, 31, 4) < 1 {
-            return 5;
-        }
-    }
-    drawn
+    let sweep = total::either(draws::pick(d, 31, 4) < 1, 5, 3);
+    total::either(drawn == 3, sweep, drawn)
 }
 
 // The plan of a step's call before it is disturbed: a sweep aside has few rows a lane.
 pub(crate) fn base(p: Partitioning, kind: u64, d: &[u64]) -> Partitioning {
-    if kind == 5 {
-        return plans::with_capacities(p, p.tuples, total::plus(1, draws::pick(d, 32, 2)));
-    }
-    p
+    plans::with_rows(
+        p,
+        total::either(kind == 5, draws::from(d, 32, 1, 2), p.rows),
+    )
 }
 
 fn change(
@@ -136,72 +120,62 @@ fn change(
     }
 }
 
-fn changed(c: Call, outer: &mut [u64], inner: &mut [u64], rows: &mut [u64]) -> Left {
+// The change on the first words of each store.
+fn changed(c: Call, s: Stores) -> Left {
     let p = c.plan;
     let t = c.tuple;
-    let a = change(c.kind, p, side(c.side), t, outer, inner, rows);
+    let l = c.lengths;
+    let mut outer = s.outer;
+    let mut inner = s.inner;
+    let mut rows = s.rows;
+    let answer = change(
+        c.kind,
+        p,
+        side(c.side),
+        t,
+        total::lent_mut(&mut outer, l.outer),
+        total::lent_mut(&mut inner, l.inner),
+        total::lent_mut(&mut rows, l.rows),
+    );
     Left {
-        answer: a,
+        answer,
         plan: p,
         more: 0,
+        stores: Stores { outer, inner, rows },
     }
 }
 
-fn with_cuts(c: Call, outer: &[u64], inner: &[u64], rows: &[u64]) -> Left {
+// The repartition on the first words of each store.
+fn with_cuts(c: Call, s: Stores) -> Left {
     let p = c.plan;
     let cuts = c.cuts;
-    let new = join::repartition(p, cuts, outer, inner, rows);
+    let l = c.lengths;
+    let outer = s.outer;
+    let inner = s.inner;
+    let rows = s.rows;
+    let new = join::repartition(
+        p,
+        cuts,
+        total::lent(&outer, l.outer),
+        total::lent(&inner, l.inner),
+        total::lent(&rows, l.rows),
+    );
     let plan = new.plan;
     let answer = new.answer;
     Left {
         answer,
         plan,
         more: digest::plan(plan),
+        stores: s,
     }
 }
 
-fn call_on(c: Call, outer: &mut [u64], inner: &mut [u64], rows: &mut [u64]) -> Left {
+pub(crate) fn made(c: Call, s: Stores) -> Left {
     let kind = c.kind;
     match kind {
-        3 => sweeps::swept(c, outer, inner, rows),
-        4 => with_cuts(c, outer, inner, rows),
-        5 => sweeps::aside(c, outer, inner),
-        _ => changed(c, outer, inner, rows),
+        3 => sweeps::swept(c, s),
+        4 => with_cuts(c, s),
+        5 => sweeps::aside(c, s),
+        _ => changed(c, s),
     }
-}
-
-// What no call answers: the words are not so many.
-pub(crate) fn none() -> Answer {
-    Answer {
-        number: 99,
-        changed: 0,
-        examined: 0,
-    }
-}
-
-fn nothing(p: Partitioning) -> Left {
-    Left {
-        answer: none(),
-        plan: p,
-        more: 0,
-    }
-}
-
-// The call on the first words of each store.
-pub(crate) fn lent(c: Call, outer: &mut [u64], inner: &mut [u64], rows: &mut [u64]) -> Left {
-    let l = c.lengths;
-    let p = c.plan;
-    let a = l.outer as usize;
-    let b = l.inner as usize;
-    let n = l.rows as usize;
-    if outer.len() < a {
-        return nothing(p);
-    }
-    if inner.len() < b {
-        return nothing(p);
-    }
-    if rows.len() < n {
-        return nothing(p);
-    }
-    call_on(c, &mut outer[0..a], &mut inner[0..b], &mut rows[0..n])
 }

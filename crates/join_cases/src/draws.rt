@@ -25,3 +25,8 @@ pub(crate) fn fill(state: u64, words: &mut [u64]) -> u64 {
 pub(crate) fn pick(d: &[u64], k: u64, n: u64) -> u64 {
     total::rest(total::word(d, k), n)
 }
+
+// Drawn number k as one of the n numbers from another on.
+pub(crate) fn from(d: &[u64], k: u64, least: u64, n: u64) -> u64 {
+    total::plus(least, pick(d, k, n))
+}

@@ -2,17 +2,10 @@
 // records' digests and not by their order, which is free for rows.
 use crate::digest;
 use crate::draws;
-use crate::plans;
+use crate::stores;
+use crate::stores::Stores;
 use crate::total;
 use plan::Partitioning;
-
-// The store (1, 2, 3; 0: none), the place, the word that was there and the one that is put there.
-pub(crate) struct Meddling {
-    pub(crate) store: u64,
-    pub(crate) at: u64,
-    pub(crate) was: u64,
-    pub(crate) is: u64,
-}
 
 // The place of the counted record with the smallest digest.
 fn smallest(words: &[u64], base: u64, width: u64, count: u64, salt: u64) -> u64 {
@@ -22,129 +15,87 @@ fn smallest(words: &[u64], base: u64, width: u64, count: u64, salt: u64) -> u64 
     let mut k: u64 = 0;
     while k < count {
         let h = digest::record(salt, words, at, width);
-        if h < best {
-            best = h;
-            place = at;
-        }
+        place = total::either(h < best, at, place);
+        best = total::either(h < best, h, best);
         at = total::plus(at, width);
         k += 1;
     }
     place
 }
 
-// The lane's count word, a word after the counted records, or a word of a counted record.
-fn place(words: &[u64], base: u64, width: u64, capacity: u64, d: &[u64]) -> u64 {
-    let count = total::word(words, base);
-    let kind = draws::pick(d, 18, 12);
-    if kind == 0 {
-        return base;
-    }
-    if kind == 1 {
-        if count < capacity {
-            return total::plus(base, total::times(width, capacity));
-        }
-        return base;
-    }
-    if count < 1 {
-        return base;
-    }
+// A word of a counted record.
+fn in_record(words: &[u64], base: u64, width: u64, count: u64, d: &[u64]) -> u64 {
     let record = smallest(words, base, width, count, draws::pick(d, 19, 32_768));
     total::plus(record, draws::pick(d, 20, width))
 }
 
+// The lane's count word, a word after the counted records, or a word of a counted record.
+fn place(words: &[u64], base: u64, width: u64, capacity: u64, d: &[u64]) -> u64 {
+    let count = total::word(words, base);
+    let kind = draws::pick(d, 18, 12);
+    let record = in_record(words, base, width, count, d);
+    let last = total::plus(base, total::times(width, capacity));
+    let after = total::either(count < capacity, last, base);
+    let held = total::either(0 < count, record, base);
+    total::either(kind == 0, base, total::either(kind == 1, after, held))
+}
+
+// The word that is put in place of another.
 fn changed(w: u64, k: u64) -> u64 {
-    match k {
-        0..=5 => total::plus(w, 1),
-        6..=9 => total::less(w),
-        10 => 0,
-        11 => 1,
-        12 => 2,
-        13 => 1_000_000,
-        14 => 100_000_000,
-        _ => 18_446_744_073_709_551_615,
-    }
+    let more = total::plus(w, 1);
+    let less = total::less(w);
+    let huge = 18_446_744_073_709_551_615;
+    let words = [
+        more,
+        more,
+        more,
+        more,
+        more,
+        more,
+        less,
+        less,
+        less,
+        less,
+        0,
+        1,
+        2,
+        1_000_000,
+        100_000_000,
+        huge,
+    ];
+    total::word(&words, k)
 }
 
-fn in_store(
-    store: u64,
-    words: &[u64],
-    base: u64,
-    width: u64,
-    capacity: u64,
-    d: &[u64],
-) -> Meddling {
+// Meddles with a store of so many lanes.
+fn meddle(words: &mut [u64], lanes: u64, width: u64, capacity: u64, d: &[u64]) {
+    let base = stores::held(
+        words,
+        lanes,
+        draws::pick(d, 17, lanes),
+        stores::room(width, capacity),
+    );
     let at = place(words, base, width, capacity, d);
-    let was = total::word(words, at);
-    Meddling {
-        store,
-        at,
-        was,
-        is: changed(was, draws::pick(d, 21, 16)),
-    }
+    let w = changed(total::word(words, at), draws::pick(d, 21, 16));
+    total::put(words, at, w);
 }
 
-fn none() -> Meddling {
-    Meddling {
-        store: 0,
-        at: 0,
-        was: 0,
-        is: 0,
-    }
+// Whether a step meddles with a word.
+pub(crate) fn is_met(d: &[u64]) -> bool {
+    draws::pick(d, 16, 64) < 12
 }
 
-// The word that a step changes, if it does.
-pub(crate) fn of_step(
-    p: Partitioning,
-    d: &[u64],
-    outer: &[u64],
-    inner: &[u64],
-    rows: &[u64],
-) -> Meddling {
-    let lane = draws::pick(d, 17, p.count);
-    let room = plans::tuple_room(p);
-    let size = plans::row_room(p);
-    match draws::pick(d, 16, 64) {
-        0 => in_store(
-            1,
-            outer,
-            plans::held(outer, p.count, lane, room),
-            4,
-            p.tuples,
-            d,
-        ),
-        1 => in_store(
-            2,
-            inner,
-            plans::held(inner, p.count, lane, room),
-            4,
-            p.tuples,
-            d,
-        ),
-        2..=11 => in_store(
-            3,
-            rows,
-            plans::held(rows, p.count, lane, size),
-            5,
-            p.rows,
-            d,
-        ),
-        _ => none(),
+// The stores before the call of a step, with the word changed, if the step does.
+pub(crate) fn of_step(p: Partitioning, d: &[u64], s: Stores) -> Stores {
+    let kind = draws::pick(d, 16, 64);
+    if kind < 2 {
+        let mut tuples = stores::side(s, kind);
+        meddle(&mut tuples, p.count, 4, p.tuples, d);
+        return stores::with_side(s, kind, tuples);
     }
-}
-
-// Writes a word to a place of a store.
-pub(crate) fn write(
-    store: u64,
-    at: u64,
-    w: u64,
-    outer: &mut [u64],
-    inner: &mut [u64],
-    rows: &mut [u64],
-) {
-    match store {
-        1 => total::put(outer, at, w),
-        2 => total::put(inner, at, w),
-        3 => total::put(rows, at, w),
-        _ => (),
+    if kind < 12 {
+        let mut rows = s.rows;
+        meddle(&mut rows, p.count, 5, p.rows, d);
+        return stores::with_rows(s, rows);
     }
+    s
 }

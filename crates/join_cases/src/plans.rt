@@ -2,13 +2,14 @@
 use crate::draws;
 use crate::total;
 use interval::time::Chronon;
+use plan::PLACES;
 use plan::Partitioning;
 
 // The last minute of lane i, from 0.
 pub(crate) fn cut(p: Partitioning, i: u64) -> u64 {
     let lasts = p.lasts;
     let at = i as usize;
-    if at < 64 {
+    if at < PLACES {
         let last = lasts[at];
         return last.0;
     }
@@ -16,13 +17,8 @@ pub(crate) fn cut(p: Partitioning, i: u64) -> u64 {
 }
 
 fn cut_drawn(i: u64, count: u64, minute: u64, drawn: u64) -> u64 {
-    if total::plus(i, 1) == count {
-        return 99_999_999;
-    }
-    if count <= i {
-        return drawn;
-    }
-    minute
+    let inner = total::either(i < count, minute, drawn);
+    total::either(total::plus(i, 1) == count, 99_999_999, inner)
 }
 
 // How far apart cuts may lie, so that they spread over some 40 minutes.
@@ -31,13 +27,12 @@ fn spread(count: u64) -> u64 {
 }
 
 // Cuts that rise; the last is the end of the calendar. What is drawn past it is ignored.
-fn cuts(state: u64, count: u64) -> [Chronon; 64] {
-    let zero = Chronon(0);
-    let mut lasts = [zero; 64];
+fn cuts(state: u64, count: u64) -> [Chronon; PLACES] {
+    let mut lasts = [Chronon(0); PLACES];
     let mut s = state;
     let mut minute: u64 = 0;
     let mut i: usize = 0;
-    while i < 64 {
+    while i < PLACES {
         s = draws::next(s);
         let w = draws::value(s);
         minute = total::plus(minute, total::rest(w, spread(count)));
@@ -48,149 +43,109 @@ fn cuts(state: u64, count: u64) -> [Chronon; 64] {
     lasts
 }
 
-// A plan with 63 or 64 lanes, 1 tuple and 1 or 2 rows a lane. All lanes but the last have one minute.
-fn wide(d: &[u64], state: u64) -> Partitioning {
-    let count = total::plus(63, draws::pick(d, 0, 2));
-    let lasts = cuts(state, count);
-    Partitioning {
-        count,
-        lasts,
-        tuples: 1,
-        rows: total::plus(1, draws::pick(d, 2, 2)),
-    }
-}
-
-// A plan with 1 to 8 lanes, 1 to 8 tuples and 1 to 16 rows a lane; once in sixteen seeds a wide one.
+// A plan with 1 to 8 lanes, 1 to 8 tuples and 1 to 16 rows a lane. Once in sixteen seeds a wide one: 63 or 64 lanes, 1
+// tuple and 1 or 2 rows a lane; all its lanes but the last have one minute.
 pub(crate) fn drawn(seed: u64, d: &[u64], state: u64) -> Partitioning {
-    if seed % 16 == 0 {
-        return wide(d, state);
-    }
-    let count = total::plus(1, draws::pick(d, 0, 8));
+    let wide = seed % 16 == 0;
+    let count = total::either(wide, draws::from(d, 0, 63, 2), draws::from(d, 0, 1, 8));
     let lasts = cuts(state, count);
     Partitioning {
         count,
         lasts,
-        tuples: total::plus(1, draws::pick(d, 1, 8)),
-        rows: total::plus(1, draws::pick(d, 2, 16)),
+        tuples: total::either(wide, 1, draws::from(d, 1, 1, 8)),
+        rows: total::either(wide, draws::from(d, 2, 1, 2), draws::from(d, 2, 1, 16)),
     }
 }
 
-// The words of a lane of tuples.
-pub(crate) fn tuple_room(p: Partitioning) -> u64 {
-    total::plus(1, total::times(4, p.tuples))
+// The one plan or the other.
+pub(crate) fn either(first: bool, p: Partitioning, q: Partitioning) -> Partitioning {
+    if first { p } else { q }
 }
 
-// The words of a lane of rows.
-pub(crate) fn row_room(p: Partitioning) -> u64 {
-    total::plus(1, total::times(5, p.rows))
+pub(crate) fn with_rows(p: Partitioning, rows: u64) -> Partitioning {
+    let mut q = p;
+    q.rows = rows;
+    q
 }
 
-// Where the first lane begins that holds a record, from this lane on and round; where this lane begins if none does.
-pub(crate) fn held(words: &[u64], count: u64, lane: u64, room: u64) -> u64 {
-    let mut i: u64 = 0;
-    while i < count {
-        let base = total::times(total::rest(total::plus(lane, i), count), room);
-        if 0 < total::word(words, base) {
-            return base;
-        }
-        i += 1;
-    }
-    total::times(lane, room)
+fn with_cuts(p: Partitioning, lasts: [Chronon; PLACES]) -> Partitioning {
+    let mut q = p;
+    q.lasts = lasts;
+    q
 }
 
-fn with_count(p: Partitioning, count: u64) -> Partitioning {
-    let lasts = p.lasts;
-    Partitioning {
-        count,
-        lasts,
-        tuples: p.tuples,
-        rows: p.rows,
-    }
-}
-
+// The plan with another last minute at a place; past the places as it is.
 fn with_cut(p: Partitioning, i: u64, minute: u64) -> Partitioning {
     let mut lasts = p.lasts;
     let at = i as usize;
-    if at < 64 {
+    if at < PLACES {
         lasts[at] = Chronon(minute);
     }
-    Partitioning {
-        count: p.count,
-        lasts,
-        tuples: p.tuples,
-        rows: p.rows,
-    }
-}
-
-pub(crate) fn with_capacities(p: Partitioning, tuples: u64, rows: u64) -> Partitioning {
-    let lasts = p.lasts;
-    Partitioning {
-        count: p.count,
-        lasts,
-        tuples,
-        rows,
-    }
+    with_cuts(p, lasts)
 }
 
 // How many kinds of disturbance there are.
 pub(crate) const DISTURBANCES: u64 = 16;
 
+// The plan with a last minute disturbed, by the kinds from 3 to 7.
+fn bent_cut(p: Partitioning, kind: u64, w: u64) -> Partitioning {
+    let end = total::less(p.count);
+    let low = total::rest(w, end);
+    let above = cut(p, total::plus(low, 1));
+    let some = total::either(kind == 7, low, total::rest(w, p.count));
+    let place = total::either(kind < 5, end, some);
+    let drawn = total::either(kind == 7, above, w / 8 % 48);
+    let minute = total::either(
+        kind == 3,
+        99_999_998,
+        total::either(kind == 4, 100_000_000, drawn),
+    );
+    with_cut(p, place, minute)
+}
+
+fn bent_count(n: u64, kind: u64) -> u64 {
+    let more = total::either(kind == 2, total::plus(n, 1), n);
+    total::either(kind == 0, 0, total::either(kind == 1, 65, more))
+}
+
+// A capacity disturbed by four kinds: none, one too many, the most, one more than it was.
+fn bent_capacity(n: u64, most: u64, kind: u64, none: u64, many: u64, all: u64, more: u64) -> u64 {
+    let one_more = total::either(kind == more, total::plus(n, 1), n);
+    let full = total::either(kind == all, most, one_more);
+    total::either(
+        kind == none,
+        0,
+        total::either(kind == many, total::plus(most, 1), full),
+    )
+}
+
 // The plan disturbed. A kind from 16 on leaves it as it is.
 fn disturbed(p: Partitioning, kind: u64, w: u64) -> Partitioning {
-    let end = total::less(p.count);
-    match kind {
-        0 => with_count(p, 0),
-        1 => with_count(p, 65),
-        2 => with_count(p, total::plus(p.count, 1)),
-        3 => with_cut(p, end, 99_999_998),
-        4 => with_cut(p, end, 100_000_000),
-        5 => with_cut(p, total::rest(w, p.count), w / 8 % 48),
-        6 => with_cut(p, total::rest(w, p.count), w / 8 % 48),
-        7 => with_cut(
-            p,
-            total::rest(w, end),
-            cut(p, total::plus(total::rest(w, end), 1)),
-        ),
-        8 => with_capacities(p, 0, p.rows),
-        9 => with_capacities(p, 513, p.rows),
-        10 => with_capacities(p, p.tuples, 0),
-        11 => with_capacities(p, p.tuples, 4_097),
-        12 => with_capacities(p, 512, p.rows),
-        13 => with_capacities(p, p.tuples, 4_096),
-        14 => with_capacities(p, total::plus(p.tuples, 1), p.rows),
-        15 => with_capacities(p, p.tuples, total::plus(p.rows, 1)),
-        _ => p,
+    let bent = either(kind < 8, bent_cut(p, kind, w), p);
+    let q = either(kind < 3, p, bent);
+    let lasts = q.lasts;
+    Partitioning {
+        count: bent_count(p.count, kind),
+        lasts,
+        tuples: bent_capacity(p.tuples, 512, kind, 8, 9, 12, 14),
+        rows: bent_capacity(p.rows, 4_096, kind, 10, 11, 13, 15),
     }
 }
 
 // The new last minutes of a repartition, disturbed five times in sixteen.
-pub(crate) fn new_cuts(p: Partitioning, d: &[u64]) -> [Chronon; 64] {
+pub(crate) fn new_cuts(p: Partitioning, d: &[u64]) -> [Chronon; PLACES] {
     let state = total::plus(total::times(total::word(d, 29), 65_536), total::word(d, 30));
-    let lasts = cuts(state, p.count);
-    let new = Partitioning {
-        count: p.count,
-        lasts,
-        tuples: p.tuples,
-        rows: p.rows,
-    };
-    let mut kind = total::plus(3, draws::pick(d, 31, 16));
-    if 8 <= kind {
-        kind = DISTURBANCES;
-    }
+    let new = with_cuts(p, cuts(state, p.count));
+    let drawn = draws::from(d, 31, 3, 16);
+    let kind = total::either(drawn < 8, drawn, DISTURBANCES);
     let q = disturbed(new, kind, total::word(d, 32));
-    let drawn = q.lasts;
-    drawn
+    let lasts = q.lasts;
+    lasts
 }
 
 // The plan of a step. Half of those that are disturbed are disturbed once more, in a capacity.
 pub(crate) fn of_step(p: Partitioning, kind: u64, d: &[u64]) -> Partitioning {
-    if DISTURBANCES <= kind {
-        return p;
-    }
     let w = total::word(d, 15);
-    disturbed(
-        disturbed(p, kind, w),
-        total::plus(8, draws::pick(d, 24, 16)),
-        w,
-    )
+    let twice = disturbed(disturbed(p, kind, w), draws::from(d, 24, 8, 16), w);
+    either(kind < DISTURBANCES, twice, p)
 }

@@ -1,11 +1,13 @@
 // Sweeps, each with two caches of its own, of drawn lengths and full of a drawn word.
-use crate::calls;
 use crate::calls::Call;
 use crate::calls::Left;
 use crate::digest;
+use crate::stores;
+use crate::stores::ROW_WORDS;
+use crate::stores::Stores;
 use crate::total;
-use join::Answer;
-use plan::Partitioning;
+
+const CACHE_WORDS: usize = 264;
 
 // How many words of each cache are lent, and the word that it is full of.
 pub(crate) struct Caches {
@@ -26,13 +28,14 @@ pub(crate) fn none() -> Caches {
 
 // All 264 words, any number of them, those of 0 to 5 tuples, or one less than these.
 fn length(w: u64) -> u64 {
-    let tuples = w / 16 % 6;
-    match w % 16 {
-        0..=5 => 264,
-        6 => w / 16 % 265,
-        7..=11 => total::times(4, tuples),
-        _ => total::less(total::times(4, tuples)),
-    }
+    let any = w / 16 % 265;
+    let need = total::times(4, w / 16 % 6);
+    let short = total::either(w % 16 < 12, need, total::less(need));
+    total::either(
+        w % 16 < 6,
+        CACHE_WORDS as u64,
+        total::either(w % 16 == 6, any, short),
+    )
 }
 
 pub(crate) fn drawn(d: &[u64]) -> Caches {
@@ -44,90 +47,62 @@ pub(crate) fn drawn(d: &[u64]) -> Caches {
     }
 }
 
-// The sweep on the first words of each cache.
-fn lent(
-    p: Partitioning,
-    a: usize,
-    b: usize,
-    outer: &[u64],
-    inner: &[u64],
-    rows: &mut [u64],
-    outer_cache: &mut [u64],
-    inner_cache: &mut [u64],
-) -> Answer {
-    if outer_cache.len() < a {
-        return calls::none();
-    }
-    if inner_cache.len() < b {
-        return calls::none();
-    }
-    join::sweep(
-        p,
+// Takes in what must be as it was: on a refusal all words of the caches, else those that were not lent.
+fn seen(
+    number: u64,
+    k: Caches,
+    outer_cache: &[u64; CACHE_WORDS],
+    inner_cache: &[u64; CACHE_WORDS],
+) -> u64 {
+    let all = CACHE_WORDS as u64;
+    let outer = digest::run(0, outer_cache, total::either(number == 0, k.outer, 0), all);
+    digest::run(
         outer,
-        inner,
-        rows,
-        &mut outer_cache[0..a],
-        &mut inner_cache[0..b],
+        inner_cache,
+        total::either(number == 0, k.inner, 0),
+        all,
     )
 }
 
-// Takes in what must be as it was: on a refusal all words of the caches, else those that were not lent.
-fn seen(number: u64, a: u64, b: u64, outer_cache: &[u64], inner_cache: &[u64]) -> u64 {
-    if number != 0 {
-        return digest::cache(digest::cache(0, outer_cache, 0), inner_cache, 0);
-    }
-    digest::cache(digest::cache(0, outer_cache, a), inner_cache, b)
-}
-
-pub(crate) fn swept(c: Call, outer: &[u64], inner: &[u64], rows: &mut [u64]) -> Left {
+// The sweep on the first words of each store and of each cache.
+pub(crate) fn swept(c: Call, s: Stores) -> Left {
     let p = c.plan;
+    let l = c.lengths;
     let k = c.caches;
-    let a = k.outer;
-    let b = k.inner;
-    let mut outer_cache = [k.outer_word; 264];
-    let mut inner_cache = [k.inner_word; 264];
-    let answer = lent(
+    let outer = s.outer;
+    let inner = s.inner;
+    let mut rows = s.rows;
+    let mut outer_cache = [k.outer_word; CACHE_WORDS];
+    let mut inner_cache = [k.inner_word; CACHE_WORDS];
+    let answer = join::sweep(
         p,
-        a as usize,
-        b as usize,
-        outer,
-        inner,
-        rows,
-        &mut outer_cache,
-        &mut inner_cache,
+        total::lent(&outer, l.outer),
+        total::lent(&inner, l.inner),
+        total::lent_mut(&mut rows, l.rows),
+        total::lent_mut(&mut outer_cache, k.outer),
+        total::lent_mut(&mut inner_cache, k.inner),
     );
     Left {
         answer,
         plan: p,
-        more: seen(answer.number, a, b, &outer_cache, &inner_cache),
+        more: seen(answer.number, k, &outer_cache, &inner_cache),
+        stores: Stores { outer, inner, rows },
     }
-}
-
-// A sweep into the first words of a rows store.
-fn swept_first(c: Call, outer: &[u64], inner: &[u64], rows: &mut [u64]) -> Left {
-    let p = c.plan;
-    let l = c.lengths;
-    let n = l.rows as usize;
-    if rows.len() < n {
-        return Left {
-            answer: calls::none(),
-            plan: p,
-            more: 0,
-        };
-    }
-    swept(c, outer, inner, &mut rows[0..n])
 }
 
 // A sweep into a rows store of its own, whose words are 0. What it leaves there is taken in as well.
-pub(crate) fn aside(c: Call, outer: &[u64], inner: &[u64]) -> Left {
+pub(crate) fn aside(c: Call, s: Stores) -> Left {
     let p = c.base;
-    let mut rows = [0u64; 706];
-    let left = swept_first(c, outer, inner, &mut rows);
+    let zeros = [0u64; ROW_WORDS];
+    let left = swept(c, stores::with_rows(s, zeros));
+    let after = left.stores;
+    let rows = after.rows;
     let answer = left.answer;
     let plan = left.plan;
     Left {
         answer,
         plan,
         more: digest::rows_store(left.more, p, 0, &rows, &rows),
+        stores: s,
     }
 }

@@ -1,5 +1,6 @@
 // Arithmetic and reading that answer for any words. Sums and products are exact for what the cases hold: words below
 // 1,000,000,000,000 in sums, numbers below 1,000,003 in products.
+ghost use Prim.Native.Nat.{_≤_};
 
 // The word at a place; 0 past the end.
 pub(crate) fn word(words: &[u64], at: u64) -> u64 {
@@ -31,4 +32,28 @@ pub(crate) fn times(a: u64, b: u64) -> u64 {
 // The remainder; 0 where there is none.
 pub(crate) fn rest(a: u64, n: u64) -> u64 {
     if n < 1 { 0 } else { a % n }
+}
+
+// The one number or the other. What is chosen from is worked out before, so that no function has many ways through it.
+pub(crate) fn either(first: bool, a: u64, b: u64) -> u64 {
+    if first { a } else { b }
+}
+
+// The first words, at most so many.
+pub(crate) fn lent(words: &[u64], n: u64) -> &[u64] {
+    let a = at_most(n, words.len());
+    &words[0..a]
+}
+
+pub(crate) fn lent_mut(words: &mut [u64], n: u64) -> &mut [u64] {
+    let a = at_most(n, words.len());
+    &mut words[0..a]
+}
+
+// A length, cut to what there is.
+pub(crate) fn at_most(n: u64, most: usize) -> usize
+    ensures { λ r. ⌜ r ≤ most ⌝ }
+{
+    let i = n as usize;
+    if i < most { i } else { most }
 }

@@ -1,6 +1,7 @@
 // Tuples: drawn ones of few labels, items and minutes, a pool of them for each list, and words out of their range.
 use crate::draws;
 use crate::plans;
+use crate::stores;
 use crate::total;
 use interval::time::Chronon;
 use interval::time::Interval;
@@ -8,29 +9,20 @@ use interval::tuple::Tuple;
 use plan::Partitioning;
 
 fn label(k: u64) -> u64 {
-    match k {
-        0 => 217_180_147_158,
-        1..=8 => 1,
-        _ => 2,
-    }
+    total::either(k == 0, 217_180_147_158, total::either(k <= 8, 1, 2))
 }
 
 fn item(k: u64) -> u64 {
-    match k {
-        0 => 999_999,
-        _ => k % 4,
-    }
+    total::either(k == 0, 999_999, k % 4)
 }
 
 // A minute from 0 to 45, the ends of the calendar, the last minute of a lane, or the first of one.
 fn minute(p: Partitioning, k: u64, w: u64) -> u64 {
-    match k {
-        0..=1 => 0,
-        2..=5 => 99_999_999,
-        6..=10 => plans::cut(p, total::rest(w, p.count)),
-        11..=14 => total::plus(plans::cut(p, total::rest(w, total::less(p.count))), 1),
-        _ => w % 46,
-    }
+    let last = plans::cut(p, total::rest(w, p.count));
+    let below = plans::cut(p, total::rest(w, total::less(p.count)));
+    let at_lane = total::either(k <= 10, last, total::plus(below, 1));
+    let within = total::either(k <= 14, at_lane, w % 46);
+    total::either(k <= 1, 0, total::either(k <= 5, 99_999_999, within))
 }
 
 fn tuple(label: u64, item: u64, first: u64, last: u64) -> Tuple {
@@ -44,35 +36,47 @@ fn tuple(label: u64, item: u64, first: u64, last: u64) -> Tuple {
     }
 }
 
+// The tuple whose words are all 0.
+pub(crate) fn none() -> Tuple {
+    tuple(0, 0, 0, 0)
+}
+
+// The minute that is drawn by the two numbers from `at` on.
+fn drawn_minute(p: Partitioning, d: &[u64], at: u64) -> u64 {
+    minute(
+        p,
+        draws::pick(d, at, 64),
+        total::word(d, total::plus(at, 1)),
+    )
+}
+
 // A tuple by the numbers from `at` on; its minutes are set in order but once in sixteen.
 fn drawn(p: Partitioning, d: &[u64], at: u64) -> Tuple {
     let l = label(draws::pick(d, at, 16));
     let i = item(draws::pick(d, total::plus(at, 1), 16));
-    let a = minute(
-        p,
-        draws::pick(d, total::plus(at, 2), 64),
-        total::word(d, total::plus(at, 3)),
-    );
-    let b = minute(
-        p,
-        draws::pick(d, total::plus(at, 4), 64),
-        total::word(d, total::plus(at, 5)),
-    );
-    if b < a {
-        if draws::pick(d, total::plus(at, 6), 16) != 0 {
-            return tuple(l, i, b, a);
-        }
-    }
-    tuple(l, i, a, b)
+    let a = drawn_minute(p, d, total::plus(at, 2));
+    let b = drawn_minute(p, d, total::plus(at, 4));
+    let as_drawn = draws::pick(d, total::plus(at, 6), 16) == 0;
+    let first = total::either(b < a, b, a);
+    let last = total::either(b < a, a, b);
+    tuple(
+        l,
+        i,
+        total::either(as_drawn, a, first),
+        total::either(as_drawn, b, last),
+    )
 }
 
-// Writes a tuple's words to place k of the pool.
-fn keep(pool: &mut [u64], k: u64, t: Tuple) {
-    let at = total::times(4, k);
-    total::put(pool, at, t.label);
-    total::put(pool, total::plus(at, 1), t.item);
-    total::put(pool, total::plus(at, 2), t.valid.first.0);
-    total::put(pool, total::plus(at, 3), t.valid.last.0);
+// A pool of 8 tuples: the plan by which they are drawn, and the 7 numbers of each.
+pub(crate) struct Pool {
+    pub(crate) plan: Partitioning,
+    pub(crate) numbers: [u64; 56],
+}
+
+fn pooled(pool: Pool, k: u64) -> Tuple {
+    let numbers = pool.numbers;
+    let p = pool.plan;
+    drawn(p, &numbers, total::times(7, k))
 }
 
 // The tuple whose words start at a place.
@@ -85,102 +89,63 @@ fn read(words: &[u64], at: u64) -> Tuple {
     )
 }
 
-// The tuple whose words are all 0.
-pub(crate) fn none() -> Tuple {
-    tuple(0, 0, 0, 0)
+// The one tuple or the other.
+fn either(first: bool, t: Tuple, u: Tuple) -> Tuple {
+    if first { t } else { u }
 }
 
-// One tuple more for the pool; answers the state after it.
-fn fill_one(p: Partitioning, state: u64, pool: &mut [u64], k: u64) -> u64 {
-    let mut d = [0u64; 7];
-    let after = draws::fill(state, &mut d);
-    keep(pool, k, drawn(p, &d, 0));
-    after
-}
-
-// A pool of 8 tuples; answers the state after them.
-pub(crate) fn fill_pool(p: Partitioning, state: u64, pool: &mut [u64]) -> u64 {
-    let mut s = state;
-    let mut k: u64 = 0;
-    while k < 8 {
-        s = fill_one(p, s, pool, k);
-        k += 1;
-    }
-    s
-}
-
-fn bad_label(t: Tuple, k: u64) -> Tuple {
-    match k {
-        0 => tuple(0, t.item, t.valid.first.0, t.valid.last.0),
-        1 => tuple(217_180_147_159, t.item, t.valid.first.0, t.valid.last.0),
-        2 => tuple(
-            18_446_744_073_709_551_615,
-            t.item,
-            t.valid.first.0,
-            t.valid.last.0,
-        ),
-        _ => t,
-    }
-}
-
-fn bad_item(t: Tuple, k: u64) -> Tuple {
-    match k {
-        0 => tuple(t.label, 1_000_000, t.valid.first.0, t.valid.last.0),
-        1 => tuple(
-            t.label,
-            18_446_744_073_709_551_615,
-            t.valid.first.0,
-            t.valid.last.0,
-        ),
-        _ => t,
-    }
-}
-
-fn bad_span(t: Tuple, k: u64) -> Tuple {
-    match k {
-        0 => tuple(
-            t.label,
-            t.item,
-            total::plus(t.valid.last.0, 1),
-            t.valid.last.0,
-        ),
-        1 => tuple(t.label, t.item, t.valid.first.0, 100_000_000),
-        2 => tuple(t.label, t.item, t.valid.first.0, 18_446_744_073_709_551_615),
-        _ => t,
-    }
-}
-
-// A new tuple, or one that is stored on the side, or one of the pool; `least` says how often a stored one is taken.
-fn chosen(p: Partitioning, d: &[u64], pool: &[u64], own: &[u64], least: u64) -> Tuple {
-    let choice = draws::pick(d, 2, 8);
-    if choice == 0 {
-        return drawn(p, d, 4);
-    }
-    let base = plans::held(
-        own,
-        p.count,
-        draws::pick(d, 23, p.count),
-        plans::tuple_room(p),
-    );
+// A tuple that is stored on the side, in the lane that begins at a place; if it has none, one of the pool.
+fn stored(d: &[u64], pool: Pool, own: &[u64], base: u64) -> Tuple {
     let count = total::word(own, base);
-    if choice < least {
-        return read(pool, total::times(4, draws::pick(d, 3, 8)));
-    }
-    if count < 1 {
-        return read(pool, total::times(4, draws::pick(d, 3, 8)));
-    }
     let place = total::times(4, draws::pick(d, 3, count));
-    read(own, total::plus(total::plus(base, 1), place))
+    let t = read(own, total::plus(total::plus(base, 1), place));
+    either(count < 1, pooled(pool, draws::pick(d, 3, 8)), t)
 }
 
-// The tuple of a step, now and then with a word or several out of their range. A delete takes mostly a stored one.
-pub(crate) fn of_step(p: Partitioning, kind: u64, d: &[u64], pool: &[u64], own: &[u64]) -> Tuple {
-    let mut least: u64 = 7;
-    if kind == 2 {
-        least = 3;
-    }
-    let t = chosen(p, d, pool, own, least);
-    let u = bad_label(t, draws::pick(d, 11, 100));
-    let v = bad_item(u, draws::pick(d, 12, 80));
-    bad_span(v, draws::pick(d, 13, 100))
+// A new tuple, or one of the pool, or one that is stored on the side. A delete takes mostly a stored one.
+fn chosen(p: Partitioning, kind: u64, d: &[u64], pool: Pool, own: &[u64]) -> Tuple {
+    let choice = draws::pick(d, 2, 8);
+    let lane = draws::pick(d, 23, p.count);
+    let t = stored(
+        d,
+        pool,
+        own,
+        stores::held(own, p.count, lane, stores::room(4, p.tuples)),
+    );
+    let old = either(
+        choice < total::either(kind == 2, 3, 7),
+        pooled(pool, draws::pick(d, 3, 8)),
+        t,
+    );
+    either(choice == 0, drawn(p, d, 4), old)
+}
+
+fn bad_label(label: u64, k: u64) -> u64 {
+    let huge = total::either(k == 2, 18_446_744_073_709_551_615, label);
+    total::either(k == 0, 0, total::either(k == 1, 217_180_147_159, huge))
+}
+
+fn bad_item(item: u64, k: u64) -> u64 {
+    let huge = total::either(k == 1, 18_446_744_073_709_551_615, item);
+    total::either(k == 0, 1_000_000, huge)
+}
+
+fn bad_last(last: u64, k: u64) -> u64 {
+    let huge = total::either(k == 2, 18_446_744_073_709_551_615, last);
+    total::either(k == 1, 100_000_000, huge)
+}
+
+// The tuple of a step, now and then with a word or several out of their range.
+pub(crate) fn of_step(p: Partitioning, kind: u64, d: &[u64], pool: Pool, own: &[u64]) -> Tuple {
+    let t = chosen(p, kind, d, pool, own);
+    let valid = t.valid;
+    let first = valid.first;
+    let last = valid.last;
+    let k = draws::pick(d, 13, 100);
+    tuple(
+        bad_label(t.label, draws::pick(d, 11, 100)),
+        bad_item(t.item, draws::pick(d, 12, 80)),
+        total::either(k == 0, total::plus(last.0, 1), first.0),
+        bad_last(last.0, k),
+    )
 }

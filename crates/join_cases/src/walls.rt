@@ -5,35 +5,43 @@ use crate::calls::Left;
 use crate::calls::Lengths;
 use crate::digest;
 use crate::draws;
-use crate::kept;
 use crate::meddling;
-use crate::meddling::Meddling;
 use crate::plans;
+use crate::stores;
+use crate::stores::Stores;
 use crate::sweeps;
 use crate::total;
 use crate::tuples;
+use crate::tuples::Pool;
 use interval::tuple::Tuple;
 use plan::Partitioning;
 
-// What goes from step to step beside the stores: the plan in force, the state of the draws, the digest, how many calls
-// were accepted, and how many steps ago the wall was opened.
+// How often each number from 0 to 14 was answered.
+pub(crate) struct Tally {
+    pub(crate) times: [u64; 15],
+}
+
+pub(crate) fn none() -> Tally {
+    let times = [0u64; 15];
+    Tally { times }
+}
+
+// What goes from step to step: the stores, the plan in force, the state of the draws, the digest, how many calls were
+// accepted, how many steps ago the wall was opened, and how often each number was answered.
 pub(crate) struct Wall {
+    pub(crate) stores: Stores,
     pub(crate) plan: Partitioning,
     pub(crate) state: u64,
     pub(crate) digest: u64,
     pub(crate) accepted: u64,
     pub(crate) age: u64,
+    pub(crate) tally: Tally,
 }
 
 // One word more or less, for two of the kinds.
 fn bent(length: u64, kind: u64, shorter: u64, longer: u64) -> u64 {
-    if kind == shorter {
-        return total::less(length);
-    }
-    if kind == longer {
-        return total::plus(length, 1);
-    }
-    length
+    let more = total::either(kind == longer, total::plus(length, 1), length);
+    total::either(kind == shorter, total::less(length), more)
 }
 
 // The lengths disturbed. A kind from 6 on leaves them as they are.
@@ -45,83 +53,11 @@ fn bent_lengths(l: Lengths, kind: u64) -> Lengths {
     }
 }
 
-// How many words of each lane of rows are compared with those before the call: none after an accepted sweep.
-fn compared(p: Partitioning, kind: u64, number: u64) -> u64 {
-    if kind == 3 {
-        if number == 0 {
-            return 0;
-        }
-    }
-    plans::row_room(p)
-}
-
-// Takes in a call's answer and what it left.
-fn seen(
-    h: u64,
-    p: Partitioning,
-    kind: u64,
-    left: Left,
-    kept: &[u64],
-    outer: &[u64],
-    inner: &[u64],
-    rows: &[u64],
-) -> u64 {
-    let l = calls::lengths_of(p);
-    let a = left.answer;
-    let number = digest::mix(h, a.number);
-    let changed = digest::mix(number, a.changed);
-    let examined = digest::mix(changed, a.examined);
-    let beside = digest::mix(examined, left.more);
-    let first = digest::tuple_store(beside, l.outer, outer);
-    let second = digest::tuple_store(first, l.inner, inner);
-    digest::rows_store(second, p, compared(p, kind, a.number), kept, rows)
-}
-
-fn is_disturbed(plan: u64, length: u64, store: u64) -> bool {
-    if plan < plans::DISTURBANCES {
-        return true;
-    }
-    if length < 6 {
-        return true;
-    }
-    0 < store
-}
-
-fn count(tally: &mut [u64], number: u64) {
-    let met = total::word(tally, number);
-    total::put(tally, number, total::plus(met, 1));
-}
-
-// One more if the number is that of an accepted call.
-fn more(accepted: u64, number: u64) -> u64 {
-    if number == 0 {
-        total::plus(accepted, 1)
-    } else {
-        accepted
-    }
-}
-
-fn tuple_of(
-    p: Partitioning,
-    kind: u64,
-    side: u64,
-    d: &[u64],
-    pool: &[u64],
-    outer: &[u64],
-    inner: &[u64],
-) -> Tuple {
-    if side < 1 {
-        return tuples::of_step(p, kind, d, pool, outer);
-    }
-    tuples::of_step(p, kind, d, pool, inner)
-}
-
-// What a step does: a call, under a plan and with lengths that may be disturbed, after one word was meddled with, or
-// none.
-struct Turn {
-    call: Call,
-    meddling: Meddling,
-    disturbed: bool,
+// Whether a step is disturbed: an illegal plan, a wrong length, or a word meddled with.
+fn is_disturbed(d: &[u64]) -> bool {
+    let plan = draws::pick(d, 14, 256) < plans::DISTURBANCES;
+    let length = draws::pick(d, 22, 180) < 6;
+    plan | length | meddling::is_met(d)
 }
 
 // The call of a step, whose tuple is drawn.
@@ -140,194 +76,118 @@ fn drawn_call(p: Partitioning, kind: u64, d: &[u64], tuple: Tuple) -> Call {
     }
 }
 
-fn drawn_step(
-    p: Partitioning,
-    age: u64,
-    d: &[u64],
-    pool: &[u64],
-    outer: &[u64],
-    inner: &[u64],
-    rows: &[u64],
-) -> Turn {
-    let meddling = meddling::of_step(p, d, outer, inner, rows);
-    let disturbed = is_disturbed(
-        draws::pick(d, 14, 256),
-        draws::pick(d, 22, 180),
-        meddling.store,
-    );
-    let kind = calls::kind(d, disturbed, age);
-    let tuple = tuple_of(p, kind, draws::pick(d, 1, 2), d, pool, outer, inner);
-    let call = drawn_call(p, kind, d, tuple);
-    Turn {
-        call,
-        meddling,
-        disturbed,
-    }
+fn drawn_step(p: Partitioning, kind: u64, d: &[u64], pool: Pool, s: Stores) -> Call {
+    let own = stores::side(s, draws::pick(d, 1, 2));
+    let tuple = tuples::of_step(p, kind, d, pool, &own);
+    drawn_call(p, kind, d, tuple)
 }
 
-// Meddles, keeps every word as it is before the call, and calls.
-fn act(s: Turn, outer: &mut [u64], inner: &mut [u64], rows: &mut [u64], kept: &mut [u64]) -> Left {
-    let m = s.meddling;
-    let c = s.call;
-    meddling::write(m.store, m.at, m.is, outer, inner, rows);
-    kept::keep_all(kept, outer, inner, rows);
-    calls::lent(c, outer, inner, rows)
+// How many words of each lane of rows are compared with those before the call: none after an accepted sweep.
+fn compared(p: Partitioning, kind: u64, number: u64) -> u64 {
+    let room = stores::room(5, p.rows);
+    total::either(kind == 3, total::either(number == 0, 0, room), room)
 }
 
-// After a disturbed call, every word is put back to what it was before.
-fn put_back(s: Turn, outer: &mut [u64], inner: &mut [u64], rows: &mut [u64], kept: &[u64]) {
-    let m = s.meddling;
-    if s.disturbed {
-        kept::give_all_back(kept, outer, inner, rows);
-        meddling::write(m.store, m.at, m.was, outer, inner, rows);
-    }
-}
-
-// The plan in force after a call: a repartition's, if it was not disturbed.
-fn in_force(p: Partitioning, s: Turn, left: Left) -> Partitioning {
-    let c = s.call;
-    let plan = left.plan;
-    if s.disturbed {
-        return p;
-    }
-    if c.kind == 4 { plan } else { p }
-}
-
-// How many steps ago the wall was opened.
-fn aged(age: u64, s: Turn, number: u64) -> u64 {
-    let c = s.call;
-    if c.kind == 0 {
-        if number == 0 {
-            if !s.disturbed {
-                return 0;
-            }
-        }
-    }
-    total::plus(age, 1)
-}
-
-// The wall after a step.
-fn after(wall: Wall, state: u64, s: Turn, left: Left, digest: u64) -> Wall {
-    let p = wall.plan;
+// Takes in a call's answer and what it left; the stores were as they are handed over.
+fn seen(h: u64, p: Partitioning, kind: u64, left: Left, before: Stores) -> u64 {
+    let l = calls::lengths_of(p);
     let a = left.answer;
+    let s = left.stores;
+    let number = digest::mix(h, a.number);
+    let changed = digest::mix(number, a.changed);
+    let examined = digest::mix(changed, a.examined);
+    let beside = digest::mix(examined, left.more);
+    digest::all(beside, p, l.outer, compared(p, kind, a.number), before, s)
+}
+
+fn counted(tally: Tally, number: u64) -> Tally {
+    let mut times = tally.times;
+    let n = total::word(&times, number);
+    total::put(&mut times, number, total::plus(n, 1));
+    Tally { times }
+}
+
+// How many steps ago the wall was opened, after a call that was not disturbed.
+fn aged(age: u64, kind: u64, number: u64) -> u64 {
+    let opened = total::either(number == 0, 0, total::plus(age, 1));
+    total::either(kind == 0, opened, total::plus(age, 1))
+}
+
+// The wall after a step. After a disturbed call every word is what it was before.
+fn after(wall: Wall, state: u64, disturbed: bool, kind: u64, left: Left, digest: u64) -> Wall {
+    let p = wall.plan;
+    let recut = left.plan;
+    let before = wall.stores;
+    let s = left.stores;
+    let tally = wall.tally;
+    let a = left.answer;
+    let age = wall.age;
     Wall {
-        plan: in_force(p, s, left),
+        stores: stores::either(disturbed, before, s),
+        plan: plans::either(disturbed, p, plans::either(kind == 4, recut, p)),
         state,
         digest,
-        accepted: more(wall.accepted, a.number),
-        age: aged(wall.age, s, a.number),
+        accepted: total::plus(wall.accepted, total::either(a.number == 0, 1, 0)),
+        age: total::either(disturbed, total::plus(age, 1), aged(age, kind, a.number)),
+        tally: counted(tally, a.number),
     }
 }
 
-// Takes in what the call of a step left, then puts back what was disturbed.
-fn settled(
-    wall: Wall,
-    state: u64,
-    s: Turn,
-    left: Left,
-    outer: &mut [u64],
-    inner: &mut [u64],
-    rows: &mut [u64],
-    kept: &[u64],
-) -> Wall {
+// One step by its draws.
+fn taken(wall: Wall, state: u64, d: &[u64], pool: Pool) -> Wall {
     let p = wall.plan;
-    let c = s.call;
-    let digest = seen(wall.digest, p, c.kind, left, kept, outer, inner, rows);
-    put_back(s, outer, inner, rows, kept);
-    after(wall, state, s, left, digest)
-}
-
-// One step: its call is made, and its answer counted.
-fn taken(
-    wall: Wall,
-    state: u64,
-    s: Turn,
-    outer: &mut [u64],
-    inner: &mut [u64],
-    rows: &mut [u64],
-    kept: &mut [u64],
-    tally: &mut [u64],
-) -> Wall {
-    let left = act(s, outer, inner, rows, kept);
-    let a = left.answer;
-    count(tally, a.number);
-    settled(wall, state, s, left, outer, inner, rows, kept)
+    let s = wall.stores;
+    let disturbed = is_disturbed(d);
+    let kind = calls::kind(d, disturbed, wall.age);
+    let call = drawn_step(p, kind, d, pool, s);
+    let before = meddling::of_step(p, d, s);
+    let left = calls::made(call, before);
+    let digest = seen(wall.digest, p, kind, left, before);
+    after(wall, state, disturbed, kind, left, digest)
 }
 
 // Draws the numbers of a step, and takes it.
-fn step(
-    wall: Wall,
-    outer: &mut [u64],
-    inner: &mut [u64],
-    rows: &mut [u64],
-    pool: &[u64],
-    tally: &mut [u64],
-) -> Wall {
+fn step(wall: Wall, pool: Pool) -> Wall {
     let mut d = [0u64; 33];
     let state = draws::fill(wall.state, &mut d);
-    let p = wall.plan;
-    let s = drawn_step(p, wall.age, &d, pool, outer, inner, rows);
-    let mut kept = [0u64; 1_350];
-    taken(wall, state, s, outer, inner, rows, &mut kept, tally)
+    taken(wall, state, &d, pool)
 }
 
-fn steps(
-    start: Wall,
-    outer: &mut [u64],
-    inner: &mut [u64],
-    rows: &mut [u64],
-    pool: &[u64],
-    tally: &mut [u64],
-) -> Wall {
+fn steps(start: Wall, pool: Pool) -> Wall {
     let mut wall = start;
     let mut k: u64 = 0;
     while k < 80 {
-        wall = step(wall, outer, inner, rows, pool, tally);
+        wall = step(wall, pool);
         k += 1;
     }
     wall
 }
 
-fn fill_stores(state: u64, outer: &mut [u64], inner: &mut [u64], rows: &mut [u64]) -> u64 {
-    let first = draws::fill(state, outer);
-    let second = draws::fill(first, inner);
-    draws::fill(second, rows)
-}
-
 // A wall on words that were filled with drawn numbers: it is opened.
-fn opened(
-    seed: u64,
-    plan: Partitioning,
-    state: u64,
-    outer: &mut [u64],
-    inner: &mut [u64],
-    rows: &mut [u64],
-) -> Wall {
-    let filled = fill_stores(state, outer, inner, rows);
-    let left = calls::lent(calls::opening(plan), outer, inner, rows);
+fn opened(seed: u64, plan: Partitioning, state: u64, tally: Tally) -> Wall {
+    let drawn = stores::filled_with(state);
+    let words = drawn.stores;
+    let left = calls::made(calls::opening(plan), words);
+    let s = left.stores;
     let a = left.answer;
     Wall {
+        stores: s,
         plan,
-        state: filled,
+        state: drawn.state,
         digest: digest::mix(seed, a.number),
         accepted: 0,
         age: 0,
+        tally,
     }
 }
 
 // The list of a seed: a plan and a pool are drawn, a wall is opened, and 80 steps follow.
-pub(crate) fn run(
-    seed: u64,
-    outer: &mut [u64],
-    inner: &mut [u64],
-    rows: &mut [u64],
-    pool: &mut [u64],
-    tally: &mut [u64],
-) -> Wall {
+pub(crate) fn run(seed: u64, tally: Tally) -> Wall {
     let mut d = [0u64; 8];
     let sown = draws::fill(seed, &mut d);
     let plan = plans::drawn(seed, &d, sown);
-    let pooled = tuples::fill_pool(plan, total::plus(sown, 77), pool);
-    let wall = opened(seed, plan, pooled, outer, inner, rows);
-    steps(wall, outer, inner, rows, pool, tally)
+    let mut numbers = [0u64; 56];
+    let pooled = draws::fill(total::plus(sown, 77), &mut numbers);
+    let wall = opened(seed, plan, pooled, tally);
+    steps(wall, Pool { plan, numbers })
 }

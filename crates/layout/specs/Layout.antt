@@ -45,21 +45,21 @@ wordsOf a = a .number ∷ (a .changed ∷ (a .examined ∷ []))
 abbrev pub sideOf : ℕ → Side
 sideOf n = pick (eqb n 1) Outer Inner
 
+-- the answer's length is right
+abbrev pub answerFits : List ℕ → Bool
+answerFits buffer = eqb (length buffer) answerWords
+
 -- the answer's buffer after a call that answers a: its three words, where three are lent
 abbrev pub told : List ℕ → Answer → List ℕ
-told buffer a = pick (eqb (length buffer) answerWords) (wordsOf a) buffer
+told buffer a = pick (answerFits buffer) (wordsOf a) buffer
 
 -- a refusal's answer: both counts are 0
 abbrev pub refusal : ℕ → Answer
 refusal n = record { number = n; changed = 0; examined = 0 }
 
--- the answer's length is right
-abbrev pub answerFits : List ℕ → Bool
-answerFits buffer = eqb (length buffer) answerWords
-
 -- the number for the lengths of what a call is lent beside the stores (0: they are right). A plan of another length
--- says nothing: 4. Where another length is wrong, the plan's own numbers, 1 to 3, come before its 4, as in document 01's
--- table.
+-- says nothing: 4. Where another length is wrong, the plan's own numbers, 1 to 3, come before its 4, as in document
+-- 01's table.
 unfoldable pub lentNumber : List ℕ → Bool → ℕ
 lentNumber plan right =
     pick (eqb (length plan) planWords) (pick right 0 (firstOf (planNumber (planIn plan) ∷ (4 ∷ [])))) 4

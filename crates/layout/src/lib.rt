@@ -1,5 +1,6 @@
-// How a plan, a tuple with its side and an answer lie in a host's words, and the number that a call gets for the lengths
-// of what it is lent beside the stores. include/ruthgarwy.h has it for C; the definitions are in specs/Layout.antt.
+// How a plan, a tuple with its side and an answer lie in a host's words, and the number that a call gets for the
+// lengths of what it is lent beside the stores. include/ruthgarwy.h has it for C; the definitions are in
+// specs/Layout.antt.
 // A reader or writer of a plan asks for its length by a `requires`; a call tests it first.
 ghost use mathlib.Core.List.{_++_};
 ghost use mathlib.Core.Path.{_≡_};

@@ -8,9 +8,9 @@ use native.Mathlib.Omega.{arith}
 use borrow.Author.Tests.{not-false}
 use Rattle.lists.specs.Choice.{refuseIf}
 use Rattle.lists.proofs.Choice.{pick-true, refuse-none}
-use Rattle.interval.specs.Label.{isLabel, labelNumber, numberOrNone, LabelRead}
-use Rattle.interval.specs.declared.label.LabelField.{LabelField}
-use Rattle.interval.specs.declared.label.LabelField.the-variants as label
+use Rattle.label.specs.Label.{isLabel, labelNumber, numberOrNone, LabelRead}
+use Rattle.label.specs.declared.LabelField.{LabelField}
+use Rattle.label.specs.declared.LabelField.the-variants as label
 use Rattle.lines.specs.Fields.{isNumber, valueOf, NumberRead}
 use Rattle.lines.specs.declared.NumberField.{NumberField}
 use Rattle.lines.specs.declared.NumberField.the-variants as number

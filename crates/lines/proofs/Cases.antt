@@ -6,10 +6,10 @@ use Prim.Native.Nat.{ℕ}
 use Prim.Native.Char.{code}
 use Prim.Native.String.{String, [] as []ₛ, _∷_ as _∷ₛ_}
 use lib.ListN.{length, replicate}
-use Rattle.interval.specs.Label.{rank, isLetter, isLabel, labelNumber, lettersOf}
+use Rattle.label.specs.Label.{rank, isLetter, isLabel, labelNumber, lettersOf}
 use Rattle.interval.specs.Tuple.{tuple}
 use Rattle.lines.specs.Fields.{isNumber, valueOf, digitsOf}
-use Rattle.lines.specs.Line.{laneOf, changeOf, worded, formOf, lineOf, printed}
+use Rattle.lines.specs.Line.{laneOf, changeOf, worded, formOf, lineOf, lineNumber, printed}
 use Rattle.lines.specs.declared.Word.{Word}
 use Rattle.lines.specs.declared.Word.the-variants.{DrawIn, DrawOut, SpotIn, SpotOut}
 use Rattle.lines.specs.declared.Line.{Line}
@@ -131,6 +131,13 @@ table = accepted ++ (lanes ++ (changes ++ lengths))
 pub cases-hold : map (λ (c : Case). lineOf (c .line)) table ≡ map (λ (c : Case). c .says) table
 unfolding isNumber valueOf rank isLetter isLabel labelNumber laneOf changeOf worded formOf lineOf
 cases-hold = refl
+
+-- an accepted line has the number 0, every other 15
+abbrev numbered : ℕ → List Case → Type 0
+numbered n cs = map (λ (c : Case). lineNumber (c .says)) cs ≡ map (λ (c : Case). n) cs
+
+pub numbers-hold : numbered 0 accepted × numbered 15 (lanes ++ (changes ++ lengths))
+numbers-hold = (refl, refl)
 
 -- the accepted ones, printed, are the lines
 pub accepted-print : map (λ (c : Case). printed (c .says)) accepted ≡ map (λ (c : Case). c .line) accepted

@@ -11,7 +11,7 @@ use lib.ListN.{length}
 use borrow.Author.Tests.{le-leb, lt-leb}
 use Rattle.lists.specs.Members.{any, placeOf}
 use Rattle.lists.proofs.Choice.{pick-true, pick-false}
-use Rattle.interval.specs.Label.{isLabel, labelNumber}
+use Rattle.label.specs.Label.{isLabel, labelNumber}
 use Rattle.interval.specs.Tuple.{tuple}
 use Rattle.lines.specs.Fields.{isComma, fieldsOf, sameBytes, isNumber, valueOf}
 use Rattle.lines.specs.Line.{lineLength, laneBytes, bytesOf, laneOf, changeOf, changeForm, numbersForm, spanForm}

@@ -14,12 +14,12 @@ use lib.ListN.{length, length-append}
 use borrow.Author.Tests.{le-ltb, leb-true, leb-false}
 use Rattle.lists.specs.Choice.{pick}
 use Rattle.lists.proofs.Choice.{and-left, and-right}
+use Rattle.label.specs.Label.{labelEnd, isLabel, labelNumber, labelCheck}
+use Rattle.label.proofs.Labels.{letters-of-label, label-range}
 use Rattle.interval.specs.Time.{calendarEnd}
-use Rattle.interval.specs.Label.{labelEnd, isLabel, labelNumber, labelCheck}
 use Rattle.interval.specs.Tuple.{from, to}
 use Rattle.interval.specs.declared.time.Chronon.{Chronon}
 use Rattle.interval.specs.declared.tuple.Tuple.{Tuple}
-use Rattle.interval.proofs.Labels.{letters-of-label, label-range}
 use Rattle.lines.specs.Fields.{comma, fieldsOf, sameBytes, mostDigits, isNumber, valueOf}
 use Rattle.lines.specs.Line.{lineLength, laneBytes, bytesOf, laneOf, tupleRead, changeOf, worded, formOf}
 use Rattle.lines.specs.Line.{lineOf, lineNumber, printed}

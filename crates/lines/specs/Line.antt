@@ -5,7 +5,7 @@ use Prim.Native.Nat.{ℕ}
 use lib.Dec.{leb}
 use lib.ListN.{length}
 use Rattle.lists.specs.Choice.{pick}
-use Rattle.interval.specs.Label.{isLabel, labelNumber, lettersOf}
+use Rattle.label.specs.Label.{isLabel, labelNumber, lettersOf}
 use Rattle.interval.specs.Tuple.{from, to, tuple}
 use Rattle.interval.specs.declared.tuple.Tuple.{Tuple}
 use Rattle.lines.specs.Fields.{comma, fieldsOf, sameBytes, isNumber, valueOf, digitsOf}

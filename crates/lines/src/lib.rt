@@ -5,10 +5,10 @@ ghost use mathlib.Core.Path.{_≡_};
 ghost use Rattle.lists.specs.Members.{placeOf};
 ghost use Rattle.lines.specs.Fields.{isComma, sameBytes, NumberRead, fieldsOf};
 ghost use Rattle.lines.specs.Line.{laneOf, spanForm, numbersForm, changeForm, lineOf};
-use interval::label::LabelField;
 use interval::time::Chronon;
 use interval::time::Interval;
 use interval::tuple::Tuple;
+use label::LabelField;
 
 // The most bytes of a line before its byte 10.
 pub const LINE_LENGTH: usize = 80;
@@ -72,7 +72,7 @@ fn same(a: &[u8], b: &[u8]) -> bool
 }
 
 // The number field with these bytes.
-pub fn read_number(field: &[u8]) -> NumberField
+fn read_number(field: &[u8]) -> NumberField
     ensures { λ r. ⌜ NumberRead (now (field .entry)) r ⌝ }
 {
     let len = field.len();
@@ -166,7 +166,7 @@ fn read_change(word: Word, rest: &[u8]) -> Line
     if rest.len() <= c {
         return Line::Malformed;
     }
-    let named = interval::label::read_label(&rest[0..c]);
+    let named = label::read_label(&rest[0..c]);
     let LabelField::Number(label) = named else {
         return Line::Malformed;
     };

@@ -1,5 +1,4 @@
--- The laws of one partition; records moved within it; the loops' invariants; the closed cases.
+-- The laws of one partition; the loops' invariants; the closed cases.
 pub mod Parts
-pub mod Movers
 pub mod Loops
 pub mod PartCases

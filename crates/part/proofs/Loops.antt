@@ -1,16 +1,15 @@
--- The loops of `store::part`, over any list and any test.
+-- The loops of this crate, over any list and any test.
 -- In order: `Tallied`, k members are seen and n of them pass, with its laws; `Passed`, no member before place k passes,
--- with its laws, and these of a partition's records; `Cleared`, the words before place i are 0, with its laws.
+-- with its laws, and these of a partition's records.
 -- Assumes nothing.
 use mathlib.Core.Bool.{Bool, true, false}
-use mathlib.Core.List.{List, _++_, append-nil}
+use mathlib.Core.List.{List}
 use mathlib.Core.Path.{_≡_, refl, sym, ap, _∙_}
 use Prim.Native.Nat.{ℕ, suc, _+_, _≤_, _<_}
 use native.Mathlib.Nat.{add-zero}
 use native.Mathlib.Numerals.{add-one}
 use native.Mathlib.Omega.{arith}
-use borrow.Author.Fill.{fill-none, fill-more}
-use lib.ListN.{length, getD, drop, set, replicate, length-append, length-replicate, length-drop, drop-of-length-le}
+use lib.ListN.{length, getD, drop, drop-of-length-le}
 use lib.Seq.{drop-cons}
 use Rattle.lists.specs.Choice.{pick}
 use Rattle.lists.specs.Members.{tally, placeOf}
@@ -101,30 +100,3 @@ module _ {A : Type 0} (kind : Kind A) (part : List ℕ) {p : A → Bool} {k : �
 
   pub place-none : counted part ≤ k → Passed p (kind .held part) k → k ≡ placeOf p (kind .held part)
   place-none h s = passed-all p (kind .held part) k (omega (arith, length-values kind part)) s
-
--- ---- clearing: the words before place i are 0, the others as they were
-
-pub record Cleared (whole : List ℕ) (i : ℕ) (words : List ℕ) : Type 0 where
-  pub within : i ≤ length whole
-  pub holds : words ≡ replicate i 0 ++ drop i whole
-
-module _ (whole : List ℕ) where
-  pub cleared-none : Cleared whole 0 whole
-  cleared-none = record { within = omega arith; holds = fill-none whole 0 }
-
-  pub cleared-more : (i : ℕ) (words : List ℕ) → i < length whole → Cleared whole i words
-      → Cleared whole (i + 1) (set words i 0)
-  cleared-more i words h s = record {
-    within = omega arith;
-    holds = rw (s .holds) (fill-more i 0 whole h);
-  }
-
-  pub cleared-length : (i : ℕ) (words : List ℕ) → Cleared whole i words → length words ≡ length whole
-  cleared-length i words s =
-      ap length (s .holds) ∙ simp (length-append, length-replicate, length-drop) (omega (arith, s .within))
-
-  pub cleared-all : (i : ℕ) (words : List ℕ) → length whole ≤ i → Cleared whole i words
-      → words ≡ replicate (length whole) 0
-  cleared-all i words h s =
-      let end : i ≡ length whole = omega arith in
-      s .holds ∙ rw (drop-of-length-le whole h, append-nil, end)

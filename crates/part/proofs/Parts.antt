@@ -3,7 +3,7 @@
 -- the words after it; lengths and counts; each record, no records, the records after an append and after a removal; the
 -- same of the values that the words make, stated once, over their `Kind`, and then of tuples and of rows; what a sound
 -- part is, and that it stays sound; an empty part; the place that a removal frees. Records moved within a part are in
--- Movers.
+-- the crate `records`.
 -- Assumes nothing.
 use mathlib.Core.Bool.{Bool, true}
 use mathlib.Core.List.{List, [], _∷_, _++_, map, map-append}

@@ -1,6 +1,6 @@
 -- One partition (document 01: lane) as words: "one count word, then its full capacity of records". What is read of it,
 -- and what the writers leave. The width w of a record is a tuple's or a row's.
--- The laws are in proofs/Parts.antt.
+-- The laws are in proofs/Parts.antt, those of `copied` and `swapped` in the crate `records`, which has the writers.
 use mathlib.Core.Bool.{Bool, _&&_}
 use mathlib.Core.List.{List, map}
 use Prim.Native.Nat.{ℕ, _+_, _-_, _*_}

@@ -207,7 +207,8 @@ start-after cs i l = let e : i ≡ (i - 1) + 1 = omega arith in ap (startOf cs) 
 -- ---- the cuts of a plan
 
 -- as many as the plan has partitions
-pub length-cuts : (p : Partitioning) → length (p .lasts) ≡ 64 → p .count ≤ 64 → length (cutsOf p) ≡ p .count
+pub length-cuts : (p : Partitioning) → length (p .lasts) ≡ mostPartitions → p .count ≤ mostPartitions
+    → length (cutsOf p) ≡ p .count
 unfolding cutsOf
 length-cuts p e l = simp (length-take, length-map) (omega arith)
 

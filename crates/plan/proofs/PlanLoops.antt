@@ -16,7 +16,7 @@ use lib.Dec.{eqb}
 use borrow.Author.Tests.{lt-ltb, le-ltb}
 use Rattle.interval.specs.Time.{calendarEnd}
 use Rattle.interval.specs.declared.time.Chronon.{Chronon}
-use Rattle.plan.specs.Plan.{numbers, cover, homeOf}
+use Rattle.plan.specs.Plan.{mostPartitions, numbers, cover, homeOf}
 use Rattle.plan.proofs.Homes.{le-or-lt, readAt, number-at, home-here, home-past}
 
 -- ---- the cuts in use: of 64 places, the first n
@@ -24,21 +24,23 @@ use Rattle.plan.proofs.Homes.{le-or-lt, readAt, number-at, home-here, h
 abbrev pub inUse : ℕ → List Chronon → List ℕ
 inUse n lasts = take n (numbers lasts)
 
-length-in-use : (n : ℕ) (lasts : List Chronon) → length lasts ≡ 64 → n ≤ 64 → length (inUse n lasts) ≡ n
+length-in-use : (n : ℕ) (lasts : List Chronon) → length lasts ≡ mostPartitions → n ≤ mostPartitions
+    → length (inUse n lasts) ≡ n
 length-in-use n lasts e l = simp (length-take, length-map) (omega arith)
 
 -- the cuts that a plan with this count has: past 64 they are all 64
-pub in-use-is : (count used : ℕ) (lasts : List Chronon) → length lasts ≡ 64 → used ≡ min count 64
+pub in-use-is : (count used : ℕ) (lasts : List Chronon) → length lasts ≡ mostPartitions
+    → used ≡ min count mostPartitions
     → inUse used lasts ≡ inUse count lasts
-in-use-is count used lasts e is = ⊎-elim few many (le-or-lt count 64)
+in-use-is count used lasts e is = ⊎-elim few many (le-or-lt count mostPartitions)
   where
-    few : count ≤ 64 → inUse used lasts ≡ inUse count lasts
+    few : count ≤ mostPartitions → inUse used lasts ≡ inUse count lasts
     few g = let same : used ≡ count = omega arith in rw same
 
-    whole : (k : ℕ) → 64 ≤ k → inUse k lasts ≡ numbers lasts
+    whole : (k : ℕ) → mostPartitions ≤ k → inUse k lasts ≡ numbers lasts
     whole k g = take-all k (numbers lasts) (rw length-map (omega arith))
 
-    many : 64 < count → inUse used lasts ≡ inUse count lasts
+    many : mostPartitions < count → inUse used lasts ≡ inUse count lasts
     many g = whole used (omega arith) ∙ sym (whole count (omega arith))
 
 -- ---- what a loop that goes up a list of cuts has still to see
@@ -78,13 +80,14 @@ home-end cs m i l = rw (drop-of-length-le cs l)
 -- ---- `covers`: the first i + 1 cuts rise, and what is left is whether those from i on cover
 
 pub record Rising (lasts : List Chronon) (used i : ℕ) : Type 0 where
-  pub long : length lasts ≡ 64
-  pub most : used ≤ 64
+  pub long : length lasts ≡ mostPartitions
+  pub most : used ≤ mostPartitions
   pub within : i < used
   pub left : cover (inUse used lasts) ≡ cover (drop i (inUse used lasts))
 
 -- no cut is passed
-pub rising-start : (lasts : List Chronon) (used : ℕ) → length lasts ≡ 64 → used ≤ 64 → 0 < used → Rising lasts used 0
+pub rising-start : (lasts : List Chronon) (used : ℕ) → length lasts ≡ mostPartitions → used ≤ mostPartitions
+    → 0 < used → Rising lasts used 0
 rising-start lasts used e l g = record { long = e; most = l; within = g; left = refl }
 
 module _ (lasts : List Chronon) (used i : ℕ) (r : Rising lasts used i) where
@@ -120,13 +123,14 @@ module _ (lasts : List Chronon) (used i : ℕ) (r : Rising lasts used i) where
 -- ---- `home`: the first i partitions end before m, and what is left is how many of those from i on do
 
 pub record Sought (lasts : List Chronon) (m used i : ℕ) : Type 0 where
-  pub long : length lasts ≡ 64
-  pub most : used ≤ 64
+  pub long : length lasts ≡ mostPartitions
+  pub most : used ≤ mostPartitions
   pub within : i ≤ used
   pub left : homeOf (inUse used lasts) m ≡ i + homeOf (drop i (inUse used lasts)) m
 
 -- no partition is passed
-pub sought-start : (lasts : List Chronon) (m used : ℕ) → length lasts ≡ 64 → used ≤ 64 → Sought lasts m used 0
+pub sought-start : (lasts : List Chronon) (m used : ℕ) → length lasts ≡ mostPartitions → used ≤ mostPartitions
+    → Sought lasts m used 0
 sought-start lasts m used e l = record { long = e; most = l; within = omega arith; left = omega arith }
 
 module _ (lasts : List Chronon) (m used i : ℕ) (s : Sought lasts m used i) where
@@ -153,13 +157,14 @@ module _ (lasts : List Chronon) (m used i : ℕ) (s : Sought lasts m used i) whe
 -- ---- `with_cuts`: new last chronons put into the first places, one after the other
 
 pub record Spliced (new old : List Chronon) (used i : ℕ) (lasts : List Chronon) : Type 0 where
-  pub long : length new ≡ 64
-  pub long-old : length old ≡ 64
-  pub few : used ≤ 64
+  pub long : length new ≡ mostPartitions
+  pub long-old : length old ≡ mostPartitions
+  pub few : used ≤ mostPartitions
   pub upto : i ≤ used
   pub mixed : lasts ≡ take i new ++ drop i old
 
-pub spliced-start : (new old : List Chronon) (used : ℕ) → length new ≡ 64 → length old ≡ 64 → used ≤ 64
+pub spliced-start : (new old : List Chronon) (used : ℕ) → length new ≡ mostPartitions → length old ≡ mostPartitions
+    → used ≤ mostPartitions
     → Spliced new old used 0 old
 spliced-start new old used a b l =
     record { long = a; long-old = b; few = l; upto = omega arith; mixed = refl }
@@ -187,18 +192,19 @@ spliced-step new old used i lasts l s = record {
 }
 
 -- past 64 all places are new
-pub spliced-end : (new old : List Chronon) (used count i : ℕ) (lasts : List Chronon) → used ≡ min count 64 → used ≤ i
+pub spliced-end : (new old : List Chronon) (used count i : ℕ) (lasts : List Chronon)
+    → used ≡ min count mostPartitions → used ≤ i
     → Spliced new old used i lasts → lasts ≡ take count new ++ drop count old
 spliced-end new old used count i lasts is g s =
     let e : i ≡ used = omega (arith, s .upto) in
-    s .mixed ∙ ap (λ (k : ℕ). take k new ++ drop k old) e ∙ ⊎-elim few many (le-or-lt count 64)
+    s .mixed ∙ ap (λ (k : ℕ). take k new ++ drop k old) e ∙ ⊎-elim few many (le-or-lt count mostPartitions)
   where
-    few : count ≤ 64 → take used new ++ drop used old ≡ take count new ++ drop count old
+    few : count ≤ mostPartitions → take used new ++ drop used old ≡ take count new ++ drop count old
     few l = let same : used ≡ count = omega arith in rw same
 
-    many : 64 < count → take used new ++ drop used old ≡ take count new ++ drop count old
+    many : mostPartitions < count → take used new ++ drop used old ≡ take count new ++ drop count old
     many l =
-        let same : used ≡ 64 = omega arith in
+        let same : used ≡ mostPartitions = omega arith in
         rw (
           take-all used new (omega (arith, s .long)),
           take-all count new (omega (arith, s .long)),

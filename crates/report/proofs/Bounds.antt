@@ -17,7 +17,7 @@ use Rattle.lists.proofs.Choice.{and-left, and-right, refuse-none}
 use Rattle.lists.proofs.Tally.{total-cong}
 use Rattle.lists.proofs.Gather.{length-gather}
 use Rattle.lists.proofs.Below.{up-next, up-end, total-cong-below}
-use Rattle.interval.specs.Label.{labelEnd, labelLength, lettersBefore, lettersOf}
+use Rattle.label.specs.Label.{labelEnd, labelLength, lettersBefore, lettersOf}
 use Rattle.interval.specs.Tuple.{rowWidth, rowOf, itemEnd, itemCheck, legalRow}
 use Rattle.interval.specs.declared.tuple.Row.{Row}
 use Rattle.interval.proofs.Tuples.{legal-row, valid-ok}

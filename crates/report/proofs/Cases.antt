@@ -8,7 +8,7 @@ use Prim.Native.Nat.{ℕ, _-_, _*_}
 use lib.ListN.{length, replicate}
 use Rattle.lists.specs.Choice.{firstOf}
 use Rattle.lists.specs.Members.{gather}
-use Rattle.interval.specs.Label.{labelCheck, lettersOf}
+use Rattle.label.specs.Label.{labelCheck, lettersOf}
 use Rattle.interval.specs.Tuple.{row, rowWords, itemCheck, validCheck, rowNumber, legalRow}
 use Rattle.interval.specs.declared.tuple.Row.{Row}
 use Rattle.plan.specs.Plan.{cutsOf, cover, planNumber, legalPlan, home, homeOf}

@@ -13,8 +13,8 @@ use lib.ListN.{drop-of-length-le}
 use lib.Seq.{length-take-le, take-at, drop-at, drop-drop, drop-cons, set-split}
 use Rattle.lists.specs.Members.{gather, upFrom}
 use Rattle.lists.proofs.Below.{up-next, up-end}
-use Rattle.interval.specs.Label.{labelLength, lettersOf, LettersWritten}
-use Rattle.interval.specs.declared.label.Letters.{Letters}
+use Rattle.label.specs.Label.{labelLength, lettersOf, LettersWritten}
+use Rattle.label.specs.declared.Letters.{Letters}
 use Rattle.interval.specs.declared.tuple.Row.{Row}
 use Rattle.lines.specs.Fields.{comma, digitsOf}
 use Rattle.report.specs.Text.{lineEnd, ended, rowLine}

@@ -4,7 +4,7 @@ use mathlib.Core.List.{List, [], _∷_, _++_}
 use Prim.Native.Nat.{ℕ, _+_}
 use lib.ListN.{length}
 use Rattle.lists.specs.Members.{gather, below}
-use Rattle.interval.specs.Label.{lettersOf}
+use Rattle.label.specs.Label.{lettersOf}
 use Rattle.interval.specs.declared.tuple.Row.{Row}
 use Rattle.plan.specs.declared.Partitioning.{Partitioning}
 use Rattle.part.specs.Part.{rowsIn}

@@ -2,7 +2,7 @@
 // after what it wrote.
 ghost use Prim.Native.Nat.{_+_, _≤_};
 ghost use lib.ListN.{length};
-ghost use Rattle.interval.specs.Label.{lettersOf};
+ghost use Rattle.label.specs.Label.{lettersOf};
 ghost use Rattle.interval.specs.Tuple.{rowWidth};
 ghost use Rattle.part.specs.Part.{roomOf, counted};
 ghost use Rattle.lines.specs.Fields.{comma, digitsOf};
@@ -49,7 +49,7 @@ fn put_label(out: &mut [u8], at: usize, label: u64) -> usize
     requires { ⌜ at + length (ended (lettersOf label) comma) ≤ length (now out) ⌝ }
     ensures { λ r. ⌜ Put at (ended (lettersOf label) comma) (now (out .entry)) (now (out .exit)) r ⌝ }
 {
-    let letters = interval::label::letters_of(label);
+    let letters = label::letters_of(label);
     let bytes = letters.bytes;
     let count = letters.count as usize;
     let next = put_bytes(out, at, &bytes[..count]);

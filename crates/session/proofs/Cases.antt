@@ -7,7 +7,7 @@ use mathlib.Core.Path.{_≡_, refl}
 use Prim.Native.Nat.{ℕ, _*_}
 use lib.ListN.{replicate}
 use Rattle.lists.specs.Choice.{firstOf}
-use Rattle.interval.specs.Label.{labelCheck}
+use Rattle.label.specs.Label.{labelCheck}
 use Rattle.interval.specs.Tuple.{tuple, tupleNumber, itemCheck, validCheck}
 use Rattle.plan.specs.Plan.{cutsOf, cover, planNumber, legalPlan, home, homeOf}
 use Rattle.part.specs.Part.{counted, soundPart, recordsIn, tuplesIn, rowsIn}

@@ -14,7 +14,7 @@ use Rattle.interval.specs.Time.{calendarEnd}
 use Rattle.interval.specs.Tuple.{tupleWidth, tupleWords, to, tupleNumber}
 use Rattle.interval.specs.declared.time.Chronon.{Chronon}
 use Rattle.interval.specs.declared.tuple.Tuple.{Tuple}
-use Rattle.plan.specs.Plan.{home}
+use Rattle.plan.specs.Plan.{mostPartitions, home}
 use Rattle.plan.specs.declared.Partitioning.{Partitioning}
 use Rattle.part.specs.Part.{appended, removed, placeOfTuple}
 use Rattle.part.proofs.Parts.{length-appended, length-removed}
@@ -63,7 +63,7 @@ whole-long n ws ws′ e d =
 
 -- a call that is accepted: a tuple's store, of which one partition changed, and the rows store
 module _ (p : Partitioning) (t : Tuple) (own other rows : List ℕ) (c : Checked p t own other rows)
-    (places : length (p .lasts) ≡ 64) where
+    (places : length (p .lasts) ≡ mostPartitions) where
   home-in : home p (to t) < p .count
   home-in = at-within p t (c .legal) (c .tuple-legal) places
 
@@ -82,7 +82,7 @@ module _ (p : Partitioning) (t : Tuple) (own other rows : List ℕ) (c : Checked
       let k = placeOfTuple t (tuplePart p own (home p (to t))) in
       on-home (removed tupleWidth k) (length-removed tupleWidth k)
 
-module _ (p : Partitioning) (t : Tuple) (S S′ : Stores) (a : Answer) (places : length (p .lasts) ≡ 64) where
+module _ (p : Partitioning) (t : Tuple) (S S′ : Stores) (a : Answer) (places : length (p .lasts) ≡ mostPartitions) where
   checks : (ns : List ℕ) → firstOf (storeNumber p S ∷ (tupleNumber t ∷ ns)) ≡ 0
       → (storeNumber p S ≡ 0) × (tupleNumber t ≡ 0)
   checks ns e = let b = first-none (storeNumber p S) _ e in (b .0, first-none (tupleNumber t) ns (b .1) .0)
@@ -155,7 +155,8 @@ opened-long s S S′ h =
     })
     (h .rest)
 
-changed-long : (s : Session) (w : Word) (t : Tuple) (S S′ : Stores) → length (s .lasts) ≡ 64 → WallChanged s w t S S′
+changed-long : (s : Session) (w : Word) (t : Tuple) (S S′ : Stores) → length (s .lasts) ≡ mostPartitions
+    → WallChanged s w t S S′
     → SameLong S S′
 changed-long s w t S S′ places h =
     wall-long s S S′
@@ -168,7 +169,8 @@ lane-long s m S S′ h =
     (λ e. long-kept S S′ (h .between (eqb-false (m .0) calendarEnd e)))
     (bool-cases (eqb (m .0) calendarEnd))
 
-taken-long : (s : Session) (line : Line) (S S′ : Stores) → length (s .lasts) ≡ 64 → Taken s line S S′ → SameLong S S′
+taken-long : (s : Session) (line : Line) (S S′ : Stores) → length (s .lasts) ≡ mostPartitions → Taken s line S S′
+    → SameLong S S′
 taken-long s (Lane m) S S′ places h = lane-long s m S S′ h
 taken-long s (Change w t) S S′ places h = changed-long s w t S S′ places h
 taken-long s Malformed S S′ places h = absurd h

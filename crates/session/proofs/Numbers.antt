@@ -17,8 +17,8 @@ use borrow.Author.Tests.{eqb-true}
 use Rattle.lists.specs.Choice.{pick, refuseIf, firstOf}
 use Rattle.lists.specs.Members.{all, any}
 use Rattle.lists.proofs.Choice.{bool-cases, and-left, and-right, and-both, or-right, first-here, pick-true, pick-false}
+use Rattle.label.specs.Label.{labelCheck}
 use Rattle.interval.specs.Time.{calendarEnd}
-use Rattle.interval.specs.Label.{labelCheck}
 use Rattle.interval.specs.Tuple.{itemEnd, tupleNumber, itemCheck, validCheck, sameTuple}
 use Rattle.interval.specs.declared.time.Chronon.{Chronon}
 use Rattle.interval.specs.declared.time.Interval.{Interval}

@@ -14,7 +14,7 @@ use borrow.Author.Tests.{lt-ltb, eqb-true, eqb-false, ltb-true, eq-eqb}
 use Rattle.lists.proofs.Choice.{bool-cases, and-left, and-right, first-none}
 use Rattle.interval.specs.Time.{calendarEnd}
 use Rattle.interval.specs.declared.time.Chronon.{Chronon}
-use Rattle.plan.specs.Plan.{cutsOf, cover, planNumber}
+use Rattle.plan.specs.Plan.{mostPartitions, cutsOf, cover, planNumber}
 use Rattle.plan.proofs.Homes.{le-or-lt, readAt}
 use Rattle.plan.proofs.Homes.{plan-legal as legal-number}
 use Rattle.plan.proofs.PlanLoops.{Rising, rising-start, rising-step, rising-end}
@@ -39,7 +39,7 @@ abbrev pub cutAt : Session → ℕ → ℕ
 cutAt s i = readAt (s .lasts) i
 
 pub record Good (s : Session) : Type 0 where
-  pub places : length (s .lasts) ≡ 64
+  pub places : length (s .lasts) ≡ mostPartitions
   pub most : s .lanes ≤ wallPartitions
   -- each lane's last minute is above that of the lane before
   pub rises : (i : ℕ) → i + 1 < s .lanes → cutAt s i < cutAt s (i + 1)

@@ -9,7 +9,7 @@ use mathlib.Core.Path.{_≡_, refl}
 use Prim.Native.Nat.{ℕ, _-_}
 use lib.ListN.{length, replicate}
 use Rattle.lists.specs.Choice.{firstOf}
-use Rattle.interval.specs.Label.{labelCheck}
+use Rattle.label.specs.Label.{labelCheck}
 use Rattle.interval.specs.Tuple.{tuple, row, tupleWidth, tupleWords, rowWidth, rowWords, itemCheck, validCheck}
 use Rattle.interval.specs.Tuple.{tupleNumber, legalTuple, rowNumber, legalRow}
 use Rattle.interval.specs.declared.tuple.Tuple.{Tuple}

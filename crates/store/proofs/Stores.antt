@@ -1,17 +1,19 @@
--- Laws of whole stores: a partition changed and the others kept; soundness, partition by partition; what a store holds,
--- with one record more or fewer; each record in the partition it belongs to; the empty store.
+-- Laws of whole stores: a partition changed, once or twice, and the others kept; soundness, partition by partition;
+-- what a store holds, with one record more or fewer; each record in the partition it belongs to; the empty store.
 -- The laws that do not speak of tuples or rows are stated once, over the partitions' room and number; so is what is
 -- said of tuple stores and of rows stores alike, over what specs/Store names for each (`SoundAt` and the like).
 -- Assumes nothing.
 use mathlib.Core.Bool.{Bool, true, false, _&&_}
-use mathlib.Core.List.{List, [], _∷_, map}
+use mathlib.Core.List.{List, [], _∷_, _++_, map}
 use mathlib.Core.Logic.{_⊎_, ⊎-elim}
 use mathlib.Core.Path.{_≡_, refl, sym, _∙_, ap}
 use Prim.Native.Nat.{ℕ, _+_, _-_, _*_, _≤_, _<_}
 use native.Mathlib.Omega.{arith}
-use lib.ListN.{length, replicate}
+use lib.ListN.{length, replicate, take, drop}
+use lib.Seq.{drop-at, length-take-le}
 use lib.Dec.{eqb}
 use borrow.Author.Tests.{eqb-true, eqb-false, ne-eqb}
+use borrow.Rule.Slice.PartMut.{take-put}
 use Rattle.lists.specs.Members.{all, keep, gather, tally, total, below}
 use Rattle.lists.specs.Choice.{pick}
 use Rattle.lists.specs.Same.{Same}
@@ -61,6 +63,24 @@ module _ (room n i : ℕ) (f : List ℕ → List ℕ) (ws : List ℕ) (long : le
           ⊎-elim (λ e. rw (eqb-true j i e, on-same) g)
           (λ e. rw (on-other j l (eqb-false j i e)) (all-below (λ j. check j (partitionAt room ws j)) n h j l))
           (bool-cases (eqb j i))
+
+-- one partition changed twice
+pub on-twice : (f g : List ℕ → List ℕ) (room i : ℕ) (ws : List ℕ) → i * room + room ≤ length ws
+    → length (f (partitionAt room ws i)) ≡ room
+    → onPartition room i g (onPartition room i f ws) ≡ onPartition room i (λ part. g (f part)) ws
+on-twice f g room i ws h e =
+    rw (
+      part-put a room ws ys h e,
+      take-put a room ws ys (omega arith),
+      drop-at (take a ws) (ys ++ drop room (drop a ws)) a (length-take-le a ws (omega arith)),
+      drop-at ys (drop room (drop a ws)) room e,
+    )
+  where
+    a : ℕ
+    a = i * room
+
+    ys : List ℕ
+    ys = f (partitionAt room ws i)
 
 -- the length of a partition of a store
 pub partition-length : (room n i : ℕ) (ws : List ℕ) → length ws ≡ n * room → i < n

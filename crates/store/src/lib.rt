@@ -65,7 +65,7 @@ pub fn append_tuple(store: &mut [u64], room: usize, i: PartitionIndex, t: Tuple)
 {
     let at = i.0 as usize * room;
     let end = at + room;
-    part::append_tuple(&mut store[at..end], t);
+    records::append_tuple(&mut store[at..end], t);
 }
 
 // Appends a row to partition i; every other word stays.
@@ -77,7 +77,7 @@ pub fn append_row(store: &mut [u64], room: usize, i: PartitionIndex, row: Row)
 {
     let at = i.0 as usize * room;
     let end = at + room;
-    part::append_row(&mut store[at..end], row);
+    records::append_row(&mut store[at..end], row);
 }
 
 // Takes record k, of that width, out of partition i; every other word stays.
@@ -89,5 +89,5 @@ pub fn remove(store: &mut [u64], width: usize, room: usize, i: PartitionIndex, k
 {
     let at = i.0 as usize * room;
     let end = at + room;
-    part::remove(&mut store[at..end], width, k);
+    records::remove(&mut store[at..end], width, k);
 }

@@ -8,8 +8,8 @@ use Prim.Native.Nat.{ℕ, _-_}
 use Prim.Native.Char.{code}
 use Prim.Native.String.{String, [] as []ₛ, _∷_ as _∷ₛ_}
 use lib.ListN.{length, replicate}
+use Rattle.label.specs.Label.{rank, isLetter, isLabel, labelNumber, lettersOf}
 use Rattle.interval.specs.Time.{overlap}
-use Rattle.interval.specs.Label.{rank, isLetter, isLabel, labelNumber, lettersOf}
 use Rattle.interval.specs.Tuple.{tuple, sameLabel, sameInterval, sameTuple}
 use Rattle.interval.specs.declared.tuple.Tuple.{Tuple}
 use Rattle.plan.specs.Plan.{cutsOf, homeOf, home}

@@ -10,7 +10,7 @@ use borrow.Author.Tests.{not-false}
 use Rattle.lists.specs.Choice.{refuseIf, firstOf}
 use Rattle.lists.specs.Members.{any}
 use Rattle.lists.proofs.Choice.{and-both, refuse-none, refuse-passed}
-use Rattle.interval.specs.Label.{labelEnd, labelCheck}
+use Rattle.label.specs.Label.{labelEnd, labelCheck}
 use Rattle.interval.specs.Time.{calendarEnd}
 use Rattle.interval.specs.Tuple.{itemEnd, itemCheck, validCheck, tupleNumber, sameTuple}
 use Rattle.interval.specs.declared.tuple.Tuple.{Tuple}

@@ -9,7 +9,7 @@ use borrow.Author.Tests.{not-true}
 use Rattle.lists.specs.Choice.{firstOf}
 use Rattle.lists.specs.Members.{all}
 use Rattle.lists.proofs.Choice.{and-both}
-use Rattle.interval.specs.Label.{labelCheck}
+use Rattle.label.specs.Label.{labelCheck}
 use Rattle.interval.specs.declared.tuple.Tuple.{Tuple}
 use Rattle.checks.specs.Stores.{Stores, sound, storeNumber}
 use Rattle.checks.proofs.Checks.{stores-are}

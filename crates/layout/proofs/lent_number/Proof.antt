@@ -1,6 +1,6 @@
 -- `layout::lent_number` meets its contract: the plan's length, the others, the plan's own number, 4.
 -- Assumes nothing.
-use mathlib.Core.Path.{sym, _∙_, ap}
+use mathlib.Core.Path.{_∙_, ap}
 use Rattle.plan.specs.Plan.{planNumber}
 use Rattle.layout.proofs.Lent.{lent-other, lent-right, lent-plan, lent-four}
 use borrow.Author.Needs.{needs}

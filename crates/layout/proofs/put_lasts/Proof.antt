@@ -24,7 +24,8 @@ many c = rw length-map (omega arith)
 
 long : (c : tie.At-loop Inv-loop μ-loop) → length (c .loop .plan) ≡ planWords
 long c =
-    copied-length (c .before .args .plan .now) planHead _ (c .loop .place) (c .loop .plan) (c .loop .inv) ∙ c .before .pre
+    copied-length (c .before .args .plan .now) planHead _ (c .loop .place) (c .loop .plan) (c .loop .inv)
+    ∙ c .before .pre
 
 loop-holds : tie.Need-loop-holds Inv-loop μ-loop
 loop-holds c = copied-none (c .args .plan .now) planHead _ (omega (arith, many c, c .pre))
@@ -54,7 +55,8 @@ loop-again : tie.Need-loop-again Inv-loop μ-loop
 loop-again c =
     let at = c .before .before in
     let a = at .before .args in
-    copied-more (a .plan .now) planHead (numbers (a .t1)) (at .loop .place) (planHead + at .loop .place) (at .loop .plan) _ 0
+    copied-more (a .plan .now) planHead (numbers (a .t1)) (at .loop .place) (planHead + at .loop .place)
+    (at .loop .plan) _ 0
     (omega (arith, many (at .before))) refl
     (sym (List·getD-map (λ (m : Chronon). m .0) (a .t1) (at .loop .place) (record { 0 = 0 })))
     (at .loop .inv)
@@ -65,7 +67,8 @@ same-length c = long (c .before) ∙ sym (c .before .before .pre)
 returns : tie.Need-returns Inv-loop μ-loop
 returns c =
     let at = c .before in
-    copied-all (at .before .args .plan .now) planHead (numbers (at .before .args .t1)) (at .loop .place) (at .loop .plan)
+    copied-all (at .before .args .plan .now) planHead (numbers (at .before .args .t1)) (at .loop .place)
+    (at .loop .plan)
     (omega (arith, many (at .before))) (omega (arith, many (at .before), at .before .pre)) (at .loop .inv)
 
 pub put-lasts-spec : {M : Type 1} → statement M

@@ -1,10 +1,12 @@
 -- `part::place_of_tuple` meets its contract. The loop's invariant is `Passed`: no tuple before place k
 -- equals t. The measure is how many are left. Assumes nothing.
+use mathlib.Core.Bool.{Bool}
+use mathlib.Core.Path.{_≡_, sym, ap, _∙_}
 use Prim.Native.Nat.{_-_}
 use native.Mathlib.Omega.{arith}
 use borrow.Author.Needs.{needs}
 use Rattle.interval.specs.Tuple.{sameTuple}
-use Rattle.part.specs.Part.{counted, tuplesIn, placeOfTuple}
+use Rattle.part.specs.Part.{counted, tupleAt, tuplesIn, placeOfTuple}
 use Rattle.part.proofs.Parts.{tuples}
 use Rattle.part.proofs.Loops.{Passed, passed-none, place-here, place-more, place-none}
 use Rattle.part.proofs.place_of_tuple.Statement.{statement}
@@ -29,11 +31,20 @@ tuple-at-requires c κs = omega arith
 same-tuple-requires : tie.Need-same-tuple-requires Inv-loop μ-loop
 same-tuple-requires c κs = search needs
 
+-- the test is asked of record k
+asked : (c : tie.After-same-tuple Inv-loop μ-loop) (answer : Bool) → c .same-tuple .result ≡ answer
+    → (let args = c .before .before .before .before .before .before .args in
+    sameTuple (args .t) (tupleAt (args .part .now) (c .before .before .before .loop .tuple-place)) ≡ answer)
+asked c answer e =
+    let args = c .before .before .before .before .before .before .args in
+    ap (sameTuple (args .t)) (sym (c .before .tuple-at .ensures)) ∙ sym (c .same-tuple .ensures) ∙ e
+
 returns : tie.Need-returns Inv-loop μ-loop
 unfolding counted placeOfTuple
 returns c =
     let at = c .before .before .before .before in
-    place-here tuples (at .before .before .before .args .part .now) (omega arith) (cc) (at .loop .inv)
+    place-here tuples (at .before .before .before .args .part .now) (omega arith) (asked (c .before) _ (c .if1 .taken))
+    (at .loop .inv)
 
 add-tuple-place : tie.Need-add-tuple-place Inv-loop μ-loop
 unfolding counted
@@ -46,7 +57,8 @@ loop-again : tie.Need-loop-again Inv-loop μ-loop
 unfolding counted
 loop-again c =
     let at = c .before .before .before .before in
-    place-more tuples (at .before .before .before .args .part .now) (omega arith) (cc) (at .loop .inv)
+    place-more tuples (at .before .before .before .args .part .now) (omega arith) (asked (c .before) _ (c .if1 .left))
+    (at .loop .inv)
 
 returns-2 : tie.Need-returns-2 Inv-loop μ-loop
 unfolding counted placeOfTuple

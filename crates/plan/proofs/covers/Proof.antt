@@ -6,7 +6,7 @@ use mathlib.Core.Path.{_≡_, _∙_, ap}
 use Prim.Native.Nat.{_-_, min}
 use native.Mathlib.Omega.{arith}
 use lib.ListN.{length}
-use Rattle.plan.specs.Plan.{cover}
+use Rattle.plan.specs.Plan.{mostPartitions, cover}
 use Rattle.plan.proofs.PlanLoops.{inUse, in-use-is}
 use Rattle.plan.proofs.PlanLoops.{Rising, rising-start, rising-step, rising-stop, rising-end}
 use Rattle.plan.proofs.covers.Statement.{statement}
@@ -23,7 +23,7 @@ unfolding cover
 returns c = let none : c .before .args .count ≡ 0 = omega arith in rw none
 
 -- how many cuts are in use, and that they are those of the contract
-used-is : (c : tie.Joined2 Inv-loop μ-loop) → c .if2 .used ≡ min (c .before .before .args .count) 64
+used-is : (c : tie.Joined2 Inv-loop μ-loop) → c .if2 .used ≡ min (c .before .before .args .count) mostPartitions
 used-is c = ⊎-elim (λ w. omega arith) (λ w. omega arith) (c .if2 .came)
 
 same-cuts : (c : tie.Joined2 Inv-loop μ-loop) →
@@ -33,7 +33,7 @@ same-cuts c =
 
 loop-holds : tie.Need-loop-holds Inv-loop μ-loop
 loop-holds c =
-    let long : length (c .before .before .args .t2) ≡ 64 = omega arith in
+    let long : length (c .before .before .args .t2) ≡ mostPartitions = omega arith in
     rising-start (c .before .before .args .t2) (c .if2 .used) long (omega (arith, used-is c)) (omega (arith, used-is c))
 
 sub-loop : tie.Need-sub-loop Inv-loop μ-loop

@@ -7,7 +7,7 @@ use mathlib.Core.Path.{_≡_, _∙_, ap}
 use Prim.Native.Nat.{ℕ, _-_, min}
 use native.Mathlib.Omega.{arith}
 use lib.ListN.{length, length-map}
-use Rattle.plan.specs.Plan.{cutsOf, homeOf, home}
+use Rattle.plan.specs.Plan.{mostPartitions, cutsOf, homeOf, home}
 use Rattle.plan.proofs.PlanLoops.{inUse, in-use-is}
 use Rattle.plan.proofs.PlanLoops.{Sought, sought-start, sought-step, sought-stop, sought-end}
 use Rattle.plan.proofs.home.Statement.{statement}
@@ -20,10 +20,11 @@ abbrev μ-loop : tie.MeasureT-loop
 μ-loop m lasts used i₀ i = used - i
 
 -- how many cuts are in use, that a plan has 64 places, and that the cuts in use are the plan's
-used-is : (c : tie.Joined1 Inv-loop μ-loop) → c .if1 .used ≡ min (c .before .before .before .args .p .count) 64
+used-is : (c : tie.Joined1 Inv-loop μ-loop)
+    → c .if1 .used ≡ min (c .before .before .before .args .p .count) mostPartitions
 used-is c = ⊎-elim (λ w. omega arith) (λ w. omega arith) (c .if1 .came)
 
-long : (c : tie.Start Inv-loop μ-loop) → length (c .args .p .lasts) ≡ 64
+long : (c : tie.Start Inv-loop μ-loop) → length (c .args .p .lasts) ≡ mostPartitions
 long c = simp length-map at (c .good .0 .1 .1 .1 .0 .1 .0 .1)
 
 same-cuts : (c : tie.Joined1 Inv-loop μ-loop)

@@ -6,7 +6,7 @@ use mathlib.Core.Path.{_≡_, ap}
 use Prim.Native.Nat.{_-_, min}
 use native.Mathlib.Omega.{arith}
 use lib.ListN.{length, length-map}
-use Rattle.plan.specs.Plan.{withCuts}
+use Rattle.plan.specs.Plan.{mostPartitions, withCuts}
 use Rattle.plan.proofs.PlanLoops.{Spliced, spliced-start, spliced-step, spliced-end}
 use Rattle.plan.proofs.with_cuts.Statement.{statement}
 use Rattle.plan.proofs.with_cuts.Tie as tie
@@ -17,13 +17,13 @@ Inv-loop p new lasts₀ used i₀ lasts i = Spliced new lasts₀ used i lasts
 abbrev μ-loop : tie.MeasureT-loop
 μ-loop p new lasts₀ used i₀ lasts i = used - i
 
-used-is : (c : tie.Joined1 Inv-loop μ-loop) → c .if1 .places ≡ min (c .before .before .args .p .count) 64
+used-is : (c : tie.Joined1 Inv-loop μ-loop) → c .if1 .places ≡ min (c .before .before .args .p .count) mostPartitions
 used-is c = ⊎-elim (λ w. omega arith) (λ w. omega arith) (c .if1 .came)
 
-long : (c : tie.Start Inv-loop μ-loop) → length (c .args .p .lasts) ≡ 64
+long : (c : tie.Start Inv-loop μ-loop) → length (c .args .p .lasts) ≡ mostPartitions
 long c = simp length-map at (c .good .0 .1 .1 .1 .0 .1 .0 .1)
 
-long-new : (c : tie.Start Inv-loop μ-loop) → length (c .args .t2) ≡ 64
+long-new : (c : tie.Start Inv-loop μ-loop) → length (c .args .t2) ≡ mostPartitions
 long-new c = omega arith
 
 loop-holds : tie.Need-loop-holds Inv-loop μ-loop

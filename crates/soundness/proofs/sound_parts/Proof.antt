@@ -9,7 +9,7 @@ use borrow.Author.Tests.{not-true, not-false}
 use lib.ListN.{length, length-map}
 use Rattle.lists.specs.Members.{all, below, upFrom}
 use Rattle.part.specs.Part.{roomOf, soundPart}
-use Rattle.plan.specs.Plan.{cutsOf}
+use Rattle.plan.specs.Plan.{mostPartitions, cutsOf}
 use Rattle.plan.proofs.Homes.{LegalPlan, legal-plan, length-cuts, cut-at, cut-most}
 use Rattle.store.specs.Store.{partitionAt}
 use Rattle.store.proofs.StoreLoops.{Turn, below-turn, below-end, lent-room}
@@ -30,7 +30,7 @@ abbrev μ-loop : tie.MeasureT-loop
 legal : (c : tie.Start Inv-loop μ-loop) → LegalPlan (c .args .p)
 legal c = legal-plan (c .args .p) (c .pre .0)
 
-long : (c : tie.Start Inv-loop μ-loop) → length (c .args .p .lasts) ≡ 64
+long : (c : tie.Start Inv-loop μ-loop) → length (c .args .p .lasts) ≡ mostPartitions
 long c = simp length-map at (c .good .1 .0 .1 .1 .1 .0 .1 .0 .1)
 
 loop-holds : tie.Need-loop-holds Inv-loop μ-loop

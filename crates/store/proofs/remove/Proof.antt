@@ -2,7 +2,7 @@
 -- Assumes nothing.
 use Prim.Native.Nat.{_*_, _<_}
 use native.Mathlib.Omega.{arith}
-use Rattle.part.specs.Part.{counted, removed}
+use Rattle.part.specs.Part.{roomOf, counted, removed}
 use Rattle.store.proofs.StoreLoops.{lent, lent-is, lent-room, put-back}
 use borrow.Author.Needs.{needs}
 use Rattle.store.proofs.remove.Statement.{statement}
@@ -33,7 +33,9 @@ remove-requires c κs =
     let at = a .i .0 * a .room in
     let lent-part = lent-is at (a .room) (a .store .now) in
     let held : a .k < counted (lent at (a .room) (a .store .now)) = rw lent-part (start .pre .1 .0) in
-    (omega arith, lent-room _ at (a .room) (a .store .now) (start .pre .0) (rw lent-part (start .pre .1 .1)))
+    let room = lent-room (roomOf (a .width) (counted (lent at (a .room) (a .store .now)))) at (a .room) (a .store .now)
+    (start .pre .0) (rw lent-part (start .pre .1 .1)) in
+    (omega arith, omega (arith, room))
 
 same-length : tie.Need-same-length
 same-length c = search needs

@@ -1,7 +1,7 @@
 -- `interval::tuple::label_check` meets its contract.
 -- Assumes nothing.
 use borrow.Author.Tests.{lt-ltb, le-ltb}
-use Rattle.interval.specs.Label.{labelCheck}
+use Rattle.label.specs.Label.{labelCheck}
 use Rattle.interval.proofs.tuple.label_check.Statement.{statement}
 use Rattle.interval.proofs.tuple.label_check.Tie as tie
 

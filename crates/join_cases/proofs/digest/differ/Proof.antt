@@ -6,10 +6,10 @@ use Rattle.join_cases.proofs.digest.differ.Statement.{statement}
 use Rattle.join_cases.proofs.digest.differ.Tie as tie
 
 abbrev Inv-loop : tie.InvT-loop
-Inv-loop kept rows base n k₀ k = k ≤ n
+Inv-loop before rows base n found₀ k₀ found k = k ≤ n
 
 abbrev μ-loop : tie.MeasureT-loop
-μ-loop kept rows base n k₀ k = n - k
+μ-loop before rows base n found₀ k₀ found k = n - k
 
 loop-holds : tie.Need-loop-holds Inv-loop μ-loop
 loop-holds c = search needs
@@ -17,17 +17,14 @@ loop-holds c = search needs
 plus-requires : tie.Need-plus-requires Inv-loop μ-loop
 plus-requires c κs = search needs
 
-plus-requires-2 : tie.Need-plus-requires-2 Inv-loop μ-loop
-plus-requires-2 c κs = search needs
-
 word-requires : tie.Need-word-requires Inv-loop μ-loop
 word-requires c κs = search needs
 
 word-requires-2 : tie.Need-word-requires-2 Inv-loop μ-loop
 word-requires-2 c κs = search needs
 
-returns : tie.Need-returns Inv-loop μ-loop
-returns c = search needs
+either-requires : tie.Need-either-requires Inv-loop μ-loop
+either-requires c κs = search needs
 
 add-k : tie.Need-add-k Inv-loop μ-loop
 add-k c = search needs
@@ -38,8 +35,8 @@ loop-less c = search needs
 loop-again : tie.Need-loop-again Inv-loop μ-loop
 loop-again c = search needs
 
-returns-2 : tie.Need-returns-2 Inv-loop μ-loop
-returns-2 c = search needs
+returns : tie.Need-returns Inv-loop μ-loop
+returns c = search needs
 
 pub differ-spec : {M : Type 1} → statement M
 differ-spec =
@@ -49,11 +46,10 @@ differ-spec =
     μ-loop
     loop-holds
     plus-requires
-    plus-requires-2
     word-requires
     word-requires-2
-    returns
+    either-requires
     add-k
     loop-less
     loop-again
-    returns-2)
+    returns)

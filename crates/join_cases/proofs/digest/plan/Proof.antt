@@ -2,14 +2,15 @@
 -- Assumes nothing.
 use borrow.Author.Needs.{needs}
 use Prim.Native.Nat.{_≤_, _-_}
+use Rattle.plan.specs.Plan.{mostPartitions}
 use Rattle.join_cases.proofs.digest.plan.Statement.{statement}
 use Rattle.join_cases.proofs.digest.plan.Tie as tie
 
 abbrev Inv-loop : tie.InvT-loop
-Inv-loop p all₀ i₀ all i = i ≤ 64
+Inv-loop p all₀ i₀ all i = i ≤ mostPartitions
 
 abbrev μ-loop : tie.MeasureT-loop
-μ-loop p all₀ i₀ all i = 64 - i
+μ-loop p all₀ i₀ all i = mostPartitions - i
 
 mix-requires : tie.Need-mix-requires Inv-loop μ-loop
 mix-requires c κs = search needs

@@ -23,6 +23,12 @@ loop-holds c = search needs
 record-requires : tie.Need-record-requires Inv-loop μ-loop
 record-requires c κs = search needs
 
+either-requires : tie.Need-either-requires Inv-loop μ-loop
+either-requires c κs = search needs
+
+either-requires-2 : tie.Need-either-requires-2 Inv-loop μ-loop
+either-requires-2 c κs = search needs
+
 plus-requires-3 : tie.Need-plus-requires-3 Inv-loop μ-loop
 plus-requires-3 c κs = search needs
 
@@ -48,6 +54,8 @@ smallest-spec =
     plus-requires-2
     loop-holds
     record-requires
+    either-requires
+    either-requires-2
     plus-requires-3
     add-k
     loop-less

@@ -4,14 +4,15 @@ use borrow.Author.Needs.{needs}
 use mathlib.Core.Path.{_≡_}
 use Prim.Native.Nat.{_≤_, _-_}
 use lib.ListN.{length}
+use Rattle.plan.specs.Plan.{mostPartitions}
 use Rattle.join_cases.proofs.plans.cuts.Statement.{statement}
 use Rattle.join_cases.proofs.plans.cuts.Tie as tie
 
 abbrev Inv-loop : tie.InvT-loop
-Inv-loop state count lasts₀ s₀ minute₀ i₀ lasts s minute i = (length lasts ≡ 64) × (i ≤ 64)
+Inv-loop state count lasts₀ s₀ minute₀ i₀ lasts s minute i = (length lasts ≡ mostPartitions) × (i ≤ mostPartitions)
 
 abbrev μ-loop : tie.MeasureT-loop
-μ-loop state count lasts₀ s₀ minute₀ i₀ lasts s minute i = 64 - i
+μ-loop state count lasts₀ s₀ minute₀ i₀ lasts s minute i = mostPartitions - i
 
 loop-holds : tie.Need-loop-holds Inv-loop μ-loop
 loop-holds c = search needs

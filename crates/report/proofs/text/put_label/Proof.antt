@@ -3,7 +3,7 @@
 use mathlib.Core.List.{[], _∷_}
 use mathlib.Core.Path.{_≡_, sym, ap, _∙_}
 use lib.ListN.{length, take}
-use Rattle.interval.specs.Label.{lettersOf}
+use Rattle.label.specs.Label.{lettersOf}
 use Rattle.lines.specs.Fields.{comma}
 use Rattle.report.specs.Text.{ended}
 use Rattle.report.proofs.Writing.{Left, left-start, left-room, left-more, left-end, letters-part, letters-count}

@@ -3,7 +3,7 @@
 use mathlib.Core.List.{List, [], _++_}
 use Prim.Native.Nat.{ℕ, _+_, _≤_}
 use lib.ListN.{length}
-use Rattle.interval.specs.Label.{lettersOf}
+use Rattle.label.specs.Label.{lettersOf}
 use Rattle.lines.specs.Fields.{comma, digitsOf}
 use Rattle.report.specs.Text.{lineEnd, ended, rowLine}
 use Rattle.report.specs.Steps.{Put}

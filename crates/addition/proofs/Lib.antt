@@ -1,0 +1,2 @@
+-- The laws of adding rows.
+pub mod Adding

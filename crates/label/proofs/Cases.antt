@@ -1,0 +1,60 @@
+-- Closed cases that compute, from the definitions that the promises cite: document 01's P5, the largest label and one
+-- more, what is no label, and check 6.
+-- Assumes nothing.
+use mathlib.Core.Bool.{false}
+use mathlib.Core.List.{List, [], _∷_}
+use mathlib.Core.Path.{_≡_, refl}
+use Prim.Native.Nat.{ℕ}
+use Rattle.label.specs.Label.{rank, isLetter, isLabel, labelNumber, numberOrNone, labelCheck, lettersOf}
+
+-- P5: A = 1, Z = 26, AA = 27, AL = 38, ZZZZZZZZ = 217,180,147,158; and the last with three letters and the first with
+-- four
+labels : List (List ℕ × ℕ)
+labels =
+    (65 ∷ [], 1)
+    ∷ ((90 ∷ [], 26)
+    ∷ ((65 ∷ (65 ∷ []), 27)
+    ∷ ((65 ∷ (76 ∷ []), 38)
+    ∷ ((90 ∷ (90 ∷ (90 ∷ [])), 18278)
+    ∷ ((65 ∷ (65 ∷ (65 ∷ (65 ∷ []))), 18279)
+    ∷ ((90 ∷ (90 ∷ (90 ∷ (90 ∷ (90 ∷ (90 ∷ (90 ∷ (90 ∷ []))))))), 217180147158)
+    ∷ []))))))
+
+-- each is a label, has that number, and is that number's letters
+Labels : List (List ℕ × ℕ) → Type 0
+Labels [] = Unit {0}
+Labels (c ∷ cs) = (numberOrNone (c .0) ≡ c .1) × (lettersOf (c .1) ≡ c .0) × Labels cs
+
+labels-hold : Labels labels
+unfolding labels Labels rank isLetter isLabel labelNumber numberOrNone lettersOf
+labels-hold =
+    (refl, refl, (refl, refl, (refl, refl, (refl, refl, (refl, refl, (refl, refl, (refl, refl, tt)))))))
+
+-- no label: no letter, nine letters, the bytes before A and after Z, a small letter, a byte above 127
+no-labels : List (List ℕ)
+no-labels =
+    []
+    ∷ ((65 ∷ (65 ∷ (65 ∷ (65 ∷ (65 ∷ (65 ∷ (65 ∷ (65 ∷ (65 ∷ [])))))))))
+    ∷ ((64 ∷ [])
+    ∷ ((91 ∷ [])
+    ∷ ((65 ∷ (97 ∷ []))
+    ∷ ((195 ∷ (132 ∷ []))
+    ∷ [])))))
+
+NoLabels : List (List ℕ) → Type 0
+NoLabels [] = Unit {0}
+NoLabels (c ∷ cs) = (isLabel c ≡ false) × NoLabels cs
+
+no-labels-hold : NoLabels no-labels
+unfolding no-labels NoLabels rank isLetter isLabel
+no-labels-hold = (refl, (refl, (refl, (refl, (refl, (refl, tt))))))
+
+-- one more than the largest label's number, and 0: no letters
+past-labels : (lettersOf 217180147159 ≡ []) × (lettersOf 0 ≡ [])
+unfolding lettersOf
+past-labels = (refl, refl)
+
+-- check 6 applies to these two, and to no label's number
+check-6 : (labelCheck 217180147159 ≡ 6) × (labelCheck 0 ≡ 6) × (labelCheck 1 ≡ 0) × (labelCheck 217180147158 ≡ 0)
+unfolding labelCheck
+check-6 = (refl, refl, refl, refl)

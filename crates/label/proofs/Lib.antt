@@ -1,0 +1,4 @@
+-- The laws of this crate's definitions, in a reader's order, and the closed cases.
+pub mod Labels
+pub mod Loops
+pub mod Cases

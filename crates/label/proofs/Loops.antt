@@ -1,0 +1,194 @@
+-- The loops of this crate: reading a label's number letter by letter, and writing a number's letters from the last.
+-- In order: numbers of other bytes; `Read`, the invariant of `label_number`, with its laws; `Written`, that of
+-- `letters_of`, with its laws.
+-- Assumes nothing.
+use mathlib.Core.Bool.{true, false, _&&_, _||_, and-false}
+use mathlib.Core.List.{List, [], _∷_, _++_}
+use mathlib.Core.Logic.{_⊎_, inl, inr, ⊎-elim}
+use mathlib.Core.Path.{_≡_, refl, sym, _∙_, ap, subst}
+use Prim.Native.Nat.{ℕ, zero, suc, _+_, _-_, _*_, _/_, _%_, _≤_, _<_}
+use native.Mathlib.Nat.{le-trans}
+use native.Mathlib.Numerals.{add-one}
+use native.Mathlib.Omega.{arith}
+use lib.ListN.{length, getD, take, drop, drop-of-length-le, replicate}
+use lib.Seq.{drop-cons, take-append-add}
+use lib.Dec.{leb, ltb}
+use borrow.Author.Tests.{lt-ltb, le-ltb, le-leb, lt-leb}
+use Rattle.lists.specs.Choice.{pick}
+use Rattle.lists.specs.Members.{all}
+use Rattle.lists.proofs.Choice.{bool-cases, and-both, or-right, pick-true, pick-false}
+use Rattle.lists.proofs.Members.{all-end, all-next, all-stop}
+use Rattle.label.specs.Label.{labelEnd, labelLength, rank, isLetter, isLabel, numberFrom, labelNumber}
+use Rattle.label.specs.Label.{numberOrNone, lettersBefore, lettersOf, LabelRead, LettersWritten}
+use Rattle.label.specs.declared.LabelField.the-variants.{Number, Malformed}
+use Rattle.label.proofs.Labels.{label-range, largest, largest-rises, number-step, letters-are, none-left}
+
+-- ---- bytes that are no label
+
+none-of : (bs : List ℕ) → isLabel bs ≡ false → 0 ≡ numberOrNone bs
+unfolding numberOrNone
+none-of bs e = sym (pick-false (isLabel bs) (labelNumber bs) 0 e)
+
+label-of : (bs : List ℕ) → isLabel bs ≡ true → numberOrNone bs ≡ labelNumber bs
+unfolding numberOrNone
+label-of bs e = pick-true (isLabel bs) (labelNumber bs) 0 e
+
+pub none-short : (bs : List ℕ) → length bs < 1 → 0 ≡ numberOrNone bs
+unfolding isLabel
+none-short bs h = none-of bs (rw (lt-leb 1 (length bs) h))
+
+pub none-long : (bs : List ℕ) → 8 < length bs → 0 ≡ numberOrNone bs
+unfolding isLabel
+none-long bs h = none-of bs (rw (lt-leb (length bs) 8 h) (and-false (leb 1 (length bs))))
+
+-- ---- reading: i letters are read, and their number is n
+
+pub record Read (bs : List ℕ) (i n : ℕ) : Type 0 where
+  pub within : i ≤ length bs
+  pub small : n ≤ largest i
+  pub letters : all isLetter bs ≡ all isLetter (drop i bs)
+  pub number : numberFrom 0 bs ≡ numberFrom n (drop i bs)
+
+pub read-none : (bs : List ℕ) → Read bs 0 0
+read-none bs = record { within = omega arith; small = omega arith; letters = refl; number = refl }
+
+-- while a letter is left of at most eight, n is a number of at most seven
+pub number-fits : (bs : List ℕ) (i n : ℕ) → i < length bs → length bs ≤ 8 → Read bs i n → n ≤ largest 7
+number-fits bs i n h hi r = le-trans (r .small) (largest-rises i 7 (omega arith))
+
+-- a letter more
+pub read-more : (bs : List ℕ) (i n : ℕ) → i < length bs → 0 < rank (getD bs i 0) → Read bs i n
+    → Read bs (i + 1) (26 * n + rank (getD bs i 0))
+unfolding isLetter
+read-more bs i n h g r = record {
+  within = omega arith;
+  small = subst (λ (m : ℕ). 26 * n + rank (getD bs i 0) ≤ largest m) (sym (add-one i))
+      (number-step i n (getD bs i 0) (r .small));
+  letters = r .letters ∙ all-next isLetter bs i 0 h (lt-ltb 0 (rank (getD bs i 0)) g);
+  number = r .number ∙ rw (drop-cons bs i 0 h, add-one i);
+}
+
+-- a byte that is no letter
+pub read-stop : (bs : List ℕ) (i n : ℕ) → i < length bs → rank (getD bs i 0) ≡ 0 → Read bs i n → 0 ≡ numberOrNone bs
+unfolding isLabel isLetter
+read-stop bs i n h g r =
+    none-of bs
+    (rw (r .letters ∙ all-stop isLetter bs i 0 h (le-ltb 0 (rank (getD bs i 0)) (omega arith)), and-false)
+    (and-false (leb 1 (length bs))))
+
+-- all letters
+pub read-all : (bs : List ℕ) (i n : ℕ) → 1 ≤ length bs → length bs ≤ 8 → length bs ≤ i → Read bs i n
+    → n ≡ numberOrNone bs
+unfolding isLabel numberOrNone labelNumber
+read-all bs i n lo hi h r =
+    (sym (ap (λ (cs : List ℕ). numberFrom n cs) (drop-of-length-le bs h)) ∙ sym (r .number))
+    ∙ sym
+    (pick-true (isLabel bs) (labelNumber bs) 0
+    (and-both (leb 1 (length bs)) (leb (length bs) 8 && all isLetter bs) (le-leb 1 (length bs) lo)
+    (and-both (leb (length bs) 8) (all isLetter bs) (le-leb (length bs) 8 hi)
+    (r .letters ∙ all-end isLetter bs i h))))
+
+-- ---- the field: 0 stands for no label, and is no label's number
+
+label-or-none : (bs : List ℕ) → ((isLabel bs ≡ true) × (1 ≤ numberOrNone bs)) ⊎
+    ((isLabel bs ≡ false) × (numberOrNone bs ≡ 0))
+label-or-none bs = ⊎-elim (λ e. inl (e, is e)) (λ e. inr (e, sym (none-of bs e))) (bool-cases (isLabel bs))
+  where
+    is : isLabel bs ≡ true → 1 ≤ numberOrNone bs
+    is e = omega (arith, label-range bs e, label-of bs e)
+
+pub read-refused : (bs : List ℕ) (n : ℕ) → n ≡ numberOrNone bs → n ≡ 0 → LabelRead bs Malformed
+read-refused bs n e z = ⊎-elim (λ p. absurd (omega arith)) (λ p. record { number = rw (p .0); label = sym (p .1) })
+    (label-or-none bs)
+
+pub read-accepted : (bs : List ℕ) (n : ℕ) → n ≡ numberOrNone bs → (n ≡ 0 → ⊥) → LabelRead bs (Number n)
+read-accepted bs n e z = ⊎-elim (λ p. record { number = rw (p .0); label = e }) (λ p. absurd (omega arith))
+    (label-or-none bs)
+
+-- ---- writing: the letters in hand are the first `count` bytes, zeros after them, and n has the letters before them
+
+pub record Written (number : ℕ) (bytes : List ℕ) (count n : ℕ) : Type 0 where
+  pub after : List ℕ
+  pub counted : count ≡ length after
+  pub most : count ≤ 8
+  pub small : n ≤ largest (8 - count)
+  pub holds : bytes ≡ after ++ replicate (8 - count) 0
+  pub letters : lettersOf number ≡ lettersBefore (8 - count) n after
+
+-- the letters of any number up to the largest label's
+letters-within : (n : ℕ) → n ≤ labelEnd → lettersOf n ≡ lettersBefore 8 n []
+unfolding lettersOf
+letters-within zero h = refl
+letters-within (suc n) h = letters-are (suc n) (omega arith) h
+
+pub written-none : (number : ℕ) → number ≤ labelEnd → Written number (replicate 8 0) 0 number
+written-none number h = record {
+  after = [];
+  counted = refl;
+  most = omega arith;
+  small = h;
+  holds = refl;
+  letters = letters-within number h;
+}
+
+-- a first letter more, the last of eight bytes falls away
+shifted : (xs : List ℕ) (k : ℕ) → length xs + k ≡ 7 → take 7 (xs ++ replicate (suc k) 0) ≡ xs ++ replicate k 0
+shifted xs k e =
+    ap (λ (m : ℕ). take m (xs ++ replicate (suc k) 0)) (sym e)
+    ∙ take-append-add xs (replicate (suc k) 0) k
+    ∙ ap (λ (ys : List ℕ). xs ++ ys) (fewer k)
+  where
+    fewer : (k : ℕ) → _≡_ {A = List ℕ} (take k (replicate (suc k) 0)) (replicate k 0)
+    fewer zero = refl
+    fewer (suc k) = ap (λ (ys : List ℕ). 0 ∷ ys) (fewer k)
+
+pub written-fits : (number : ℕ) (bytes : List ℕ) (count n : ℕ) → (n ≡ 0 → ⊥) → Written number bytes count n → count < 8
+written-fits number bytes count n h w = room (8 - count) refl (w .small)
+  where
+    room : (k : ℕ) → 8 - count ≡ k → n ≤ largest k → count < 8
+    room zero e s = absurd (h (omega arith))
+    room (suc k) e s = omega arith
+
+pub written-more : (number : ℕ) (bytes : List ℕ) (count n : ℕ) → (n ≡ 0 → ⊥) → Written number bytes count n
+    → Written number ((65 + (n - 1) % 26) ∷ take 7 bytes) (count + 1) ((n - 1) / 26)
+written-more number bytes count zero h w = absurd (h refl)
+written-more number bytes count (suc m) h w =
+    let fits : count < 8 = written-fits number bytes count (suc m) h w in
+    step (7 - count) (omega arith) (omega arith) (omega arith)
+  where
+    step : (k : ℕ) → 8 - count ≡ suc k → 8 - (count + 1) ≡ k → suc m - 1 ≡ m
+        → Written number ((65 + (suc m - 1) % 26) ∷ take 7 bytes) (count + 1) ((suc m - 1) / 26)
+    step k e f g = record {
+      after = (65 + (suc m - 1) % 26) ∷ w .after;
+      counted = omega (arith, w .counted);
+      most = omega arith;
+      small =
+          let s : suc m ≤ largest (suc k) = rw e at (w .small) in
+          rw (f, g) (omega arith);
+      holds =
+          rw f
+          (ap (λ (ys : List ℕ). (65 + (suc m - 1) % 26) ∷ ys)
+          (ap (λ (ys : List ℕ). take 7 ys) (rw e at (w .holds)) ∙ shifted (w .after) k (omega (arith, w .counted))));
+      letters = rw (f, g) (rw e at (w .letters));
+    }
+
+-- all letters are in hand
+pub written-all : (number : ℕ) (bytes : List ℕ) (count n : ℕ) → n ≡ 0 → Written number bytes count n
+    → LettersWritten number (record { bytes = bytes; count = count })
+written-all number bytes count n z w =
+    let e : lettersOf number ≡ w .after =
+    w .letters ∙ ap (λ (m : ℕ). lettersBefore (8 - count) m (w .after)) z ∙ none-left (8 - count) (w .after) in
+    record {
+      count = w .counted ∙ sym (ap length e);
+      bytes = rw (e, ← w .counted) (w .holds);
+    }
+
+-- a number of no label has no letters
+no-letters : (number : ℕ) → labelEnd < number → lettersOf number ≡ []
+unfolding lettersOf
+no-letters number h =
+    pick-true (ltb number 1 || ltb labelEnd number) [] (lettersBefore labelLength number [])
+    (or-right (ltb number 1) (ltb labelEnd number) (lt-ltb labelEnd number h))
+
+pub never : (number : ℕ) → labelEnd < number → LettersWritten number (record { bytes = replicate 8 0; count = 0 })
+never number h = record { count = sym (ap length (no-letters number h)); bytes = rw (no-letters number h) }

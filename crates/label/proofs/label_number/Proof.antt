@@ -1,0 +1,108 @@
+-- `label::label_number` meets its contract. The loop's invariant is `Read`: i letters are read, their number is n.
+-- The measure is how many are left. Assumes nothing.
+use mathlib.Core.Path.{_≡_, sym, _∙_}
+use Prim.Native.Nat.{_-_}
+use native.Mathlib.Omega.{arith}
+use borrow.Author.Needs.{needs}
+use lib.ListN.{length, getD}
+use Rattle.label.specs.Label.{rank}
+use Rattle.label.proofs.Labels.{rank-most}
+use Rattle.label.proofs.Loops.{Read, none-short, none-long, number-fits, read-none, read-more, read-stop}
+use Rattle.label.proofs.Loops.{read-all}
+use Rattle.label.proofs.label_number.Statement.{statement}
+use Rattle.label.proofs.label_number.Tie as tie
+
+abbrev Inv-loop : tie.InvT-loop
+Inv-loop letters len n₀ i₀ n i = Read letters i n
+
+abbrev μ-loop : tie.MeasureT-loop
+μ-loop letters len n₀ i₀ n i = length letters - i
+
+returns : tie.Need-returns Inv-loop μ-loop
+returns c = none-short (c .before .before .args .letters .now) (c .if1 .taken)
+
+returns-2 : tie.Need-returns-2 Inv-loop μ-loop
+returns-2 c = none-long (c .before .before .before .args .letters .now) (c .if2 .taken)
+
+loop-holds : tie.Need-loop-holds Inv-loop μ-loop
+loop-holds c = read-none (c .before .before .before .args .letters .now)
+
+shared-slice-read-rank-of : tie.Need-shared-slice-read-rank-of Inv-loop μ-loop
+shared-slice-read-rank-of c = search needs
+
+rank-of-requires : tie.Need-rank-of-requires Inv-loop μ-loop
+rank-of-requires c κs = search needs
+
+returns-3 : tie.Need-returns-3 Inv-loop μ-loop
+returns-3 c =
+    read-stop (c .before .before .before .before .before .before .before .before .args .letters .now)
+    (c .before .before .before .before .loop .i) (c .before .before .before .before .loop .n)
+    (c .before .before .before .loop-test .taken) (sym (c .before .rank-of .ensures) ∙ c .if3 .taken)
+    (c .before .before .before .before .loop .inv)
+
+mul-n : tie.Need-mul-n Inv-loop μ-loop
+mul-n c =
+    record {
+      fits = omega (
+        arith,
+        number-fits
+            (c .before .before .before .before .before .before .before .before .args .letters .now)
+            (c .before .before .before .before .loop .i) (c .before .before .before .before .loop .n)
+            (c .before .before .before .loop-test .taken) (c .before .before .before .before .before .if2 .left)
+            (c .before .before .before .before .loop .inv),
+      );
+    }
+
+add-n : tie.Need-add-n Inv-loop μ-loop
+add-n c =
+    record {
+      fits = omega (
+        arith,
+        number-fits
+            (c .before .before .before .before .before .before .before .before .args .letters .now)
+            (c .before .before .before .before .loop .i) (c .before .before .before .before .loop .n)
+            (c .before .before .before .loop-test .taken) (c .before .before .before .before .before .if2 .left)
+            (c .before .before .before .before .loop .inv),
+        c .before .rank-of .ensures,
+        rank-most
+            (getD (c .before .before .before .before .before .before .before .before .args .letters .now)
+            (c .before .before .before .before .loop .i) 0),
+      );
+    }
+
+add-i : tie.Need-add-i Inv-loop μ-loop
+add-i c = search needs
+
+loop-less : tie.Need-loop-less Inv-loop μ-loop
+loop-less c = omega arith
+
+loop-again : tie.Need-loop-again Inv-loop μ-loop
+loop-again c =
+    let bs = c .before .before .before .before .before .before .before .before .args .letters .now in
+    let at = c .before .before .before .before .loop in
+    let is : c .before .rank-of .result ≡ rank (getD bs (at .i) 0) = c .before .rank-of .ensures in
+    rw is (read-more bs (at .i) (at .n) (c .before .before .before .loop-test .taken) (omega arith) (at .inv))
+
+returns-4 : tie.Need-returns-4 Inv-loop μ-loop
+returns-4 c =
+    read-all (c .before .before .before .before .before .args .letters .now) (c .before .loop .i) (c .before .loop .n)
+    (c .before .before .before .if1 .left) (c .before .before .if2 .left) (c .loop-test .left) (c .before .loop .inv)
+
+pub label-number-spec : {M : Type 1} → statement M
+label-number-spec =
+    tie.close
+    (tie.spec
+    Inv-loop
+    μ-loop
+    returns
+    returns-2
+    loop-holds
+    shared-slice-read-rank-of
+    rank-of-requires
+    returns-3
+    mul-n
+    add-n
+    add-i
+    loop-less
+    loop-again
+    returns-4)

@@ -1,0 +1,3 @@
+-- Records moved within a part, and words cleared: their laws and the loops' invariants.
+pub mod Movers
+pub mod Clearing

@@ -1,0 +1,4 @@
+-- The definitions of this crate, in a reader's order.
+pub mod Pairs
+pub mod Partition
+pub mod Space
