@@ -80,7 +80,7 @@ EDITS = [
     ('records/lib.rt', 'let source = 1 + width * from;', 'let source = 1 + width * to;'),
     ('records/lib.rt', 'part[0] = tuples + 1;', 'part[0] = tuples + 2;'),
     ('records/lib.rt', 'write_tuple(part, 1 + TUPLE_WIDTH * (tuples as usize), t);', 'write_tuple(part, 1, t);'),
-    ('interval/tuple.rt', 'words[at + 4] = row.valid.last.0;', 'words[at + 4] = row.valid.first.0;'),
+    ('encoding/lib.rt', 'words[at + 4] = row.valid.last.0;', 'words[at + 4] = row.valid.first.0;'),
     ('part/lib.rt', 'let mut tuple_place: usize = 0;', 'let mut tuple_place: usize = 1;'),
     ('records/lib.rt', 'words[i] = 0;', 'words[i] = words[i] / 2;'),
     ('part/lib.rt', 'equal_rows += 1;', 'equal_rows = 1;'),
