@@ -1,6 +1,6 @@
 -- The loops of this crate.
--- In order, each with its laws: `Passed`, no byte before place i is a comma, for `comma_from`; `Matched`, the bytes
--- before place i are the same, for `same`; `Digits`, i digits are read and their value is n, for `read_number`.
+-- In order, each with its laws: `Passed`, no byte before place i is the one looked for, for `place_of`; `Matched`,
+-- the bytes before place i are the same, for `same`; `Digits`, i digits are read and their value is n, for `read_number`.
 -- Assumes nothing.
 use mathlib.Core.Bool.{true, false, _&&_, false≢true}
 use mathlib.Core.List.{List}
@@ -17,38 +17,38 @@ use Rattle.lists.specs.Choice.{pick}
 use Rattle.lists.specs.Members.{all, placeOf}
 use Rattle.lists.proofs.Choice.{bool-cases, and-both}
 use Rattle.lists.proofs.Members.{all-end, all-next, all-stop}
-use Rattle.lines.specs.Fields.{isComma, sameBytes, mostDigits, isDigit, isNumber, valueFrom, valueOf}
+use Rattle.lines.specs.Fields.{isByte, sameBytes, mostDigits, isDigit, isNumber, valueFrom, valueOf}
 use Rattle.lines.specs.Fields.{NumberRead}
 use Rattle.lines.specs.declared.NumberField.the-variants.{Value, Malformed}
 use Rattle.lines.proofs.Fields.{same-bytes-is}
 use Rattle.lines.proofs.Numbers.{number-made, no-number, tens, tens-rise, value-step}
 
--- ---- the first comma: none stands before place i
+-- ---- the first of a byte: none stands before place i
 
-pub record Passed (bs : List ℕ) (i : ℕ) : Type 0 where
+pub record Passed (byte : ℕ) (bs : List ℕ) (i : ℕ) : Type 0 where
   pub within : i ≤ length bs
-  pub place : placeOf isComma bs ≡ i + placeOf isComma (drop i bs)
+  pub place : placeOf (isByte byte) bs ≡ i + placeOf (isByte byte) (drop i bs)
 
-module _ (bs : List ℕ) where
-  pub passed-none : Passed bs 0
+module _ (byte : ℕ) (bs : List ℕ) where
+  pub passed-none : Passed byte bs 0
   passed-none = record { within = omega arith; place = omega arith }
 
   place-next : (i : ℕ) → i < length bs
-      → placeOf isComma (drop i bs) ≡ pick (isComma (getD bs i 0)) 0 (suc (placeOf isComma (drop (i + 1) bs)))
+      → placeOf (isByte byte) (drop i bs) ≡ pick (isByte byte (getD bs i 0)) 0 (suc (placeOf (isByte byte) (drop (i + 1) bs)))
   place-next i h = rw (add-one, drop-cons bs i 0 h)
 
-  -- a comma at place i, another byte there, and the end
-  pub passed-here : (i : ℕ) → i < length bs → getD bs i 0 ≡ 44 → Passed bs i → i ≡ placeOf isComma bs
-  passed-here i h e p = omega (arith, p .place, rw (eq-eqb (getD bs i 0) 44 e) at (place-next i h))
+  -- the byte at place i, another there, and the end
+  pub passed-here : (i : ℕ) → i < length bs → getD bs i 0 ≡ byte → Passed byte bs i → i ≡ placeOf (isByte byte) bs
+  passed-here i h e p = omega (arith, p .place, rw (eq-eqb (getD bs i 0) byte e) at (place-next i h))
 
-  pub passed-more : (i : ℕ) → i < length bs → (getD bs i 0 ≡ 44 → ⊥) → Passed bs i → Passed bs (i + 1)
+  pub passed-more : (i : ℕ) → i < length bs → (getD bs i 0 ≡ byte → ⊥) → Passed byte bs i → Passed byte bs (i + 1)
   passed-more i h e p = record {
     within = omega arith;
-    place = omega (arith, p .place, rw (ne-eqb (getD bs i 0) 44 e) at (place-next i h));
+    place = omega (arith, p .place, rw (ne-eqb (getD bs i 0) byte e) at (place-next i h));
   }
 
-  pub passed-all : (i : ℕ) → length bs ≤ i → Passed bs i → i ≡ placeOf isComma bs
-  passed-all i h p = omega (arith, p .place, p .within, ap (placeOf isComma) (drop-of-length-le bs h))
+  pub passed-all : (i : ℕ) → length bs ≤ i → Passed byte bs i → i ≡ placeOf (isByte byte) bs
+  passed-all i h p = omega (arith, p .place, p .within, ap (placeOf (isByte byte)) (drop-of-length-le bs h))
 
 -- ---- two runs of bytes: those before place i are the same
 

@@ -11,12 +11,19 @@ use Rattle.lists.specs.Members.{all}
 use Rattle.lines.specs.declared.NumberField.{NumberField}
 use Rattle.lines.specs.declared.NumberField.the-variants.{Value, Malformed}
 
--- the byte of a comma
+-- the byte of a comma, and the byte that ends a line
 abbrev pub comma : ℕ
 comma = 44
 
+abbrev pub lineEnd : ℕ
+lineEnd = 10
+
+-- b is that byte
+abbrev pub isByte : ℕ → ℕ → Bool
+isByte byte b = eqb b byte
+
 abbrev pub isComma : ℕ → Bool
-isComma b = eqb b comma
+isComma b = isByte comma b
 
 -- a byte in front of a list of fields: the first field's first
 abbrev pub onFirst : ℕ → List (List ℕ) → List (List ℕ)

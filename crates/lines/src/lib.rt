@@ -3,7 +3,7 @@
 // The definitions are in specs/: Fields (commas, numbers), Line (the form of a line, its value, how a value prints).
 ghost use mathlib.Core.Path.{_≡_};
 ghost use Rattle.lists.specs.Members.{placeOf};
-ghost use Rattle.lines.specs.Fields.{isComma, sameBytes, NumberRead, fieldsOf};
+ghost use Rattle.lines.specs.Fields.{isByte, sameBytes, NumberRead, fieldsOf};
 ghost use Rattle.lines.specs.Line.{laneOf, spanForm, numbersForm, changeForm, lineOf};
 use interval::time::Chronon;
 use interval::time::Interval;
@@ -12,6 +12,11 @@ use label::LabelField;
 
 // The most bytes of a line before its byte 10.
 pub const LINE_LENGTH: usize = 80;
+
+// The byte that parts fields, and the one that ends a line.
+const COMMA: u8 = 44;
+
+pub const LINE_END: u8 = 10;
 
 // The most digits of a number.
 const MOST_DIGITS: usize = 8;
@@ -40,13 +45,13 @@ pub enum NumberField {
     Malformed,
 }
 
-// The place of the first comma; the length where there is none.
-fn comma_from(bytes: &[u8]) -> usize
-    ensures { λ r. ⌜ r ≡ placeOf isComma (now (bytes .entry)) ⌝ }
+// The place of the first such byte; the length where there is none.
+pub fn place_of(bytes: &[u8], byte: u8) -> usize
+    ensures { λ r. ⌜ r ≡ placeOf (isByte byte) (now (bytes .entry)) ⌝ }
 {
     let mut i: usize = 0;
     while i < bytes.len() {
-        if bytes[i] == 44 {
+        if bytes[i] == byte {
             return i;
         }
         i += 1;
@@ -118,7 +123,7 @@ fn read_lane(rest: &[u8]) -> Line
 fn read_span(word: Word, label: u64, item: u64, rest: &[u8]) -> Line
     ensures { λ r. ⌜ r ≡ spanForm word label item (fieldsOf (now (rest .entry))) ⌝ }
 {
-    let c = comma_from(rest);
+    let c = place_of(rest, COMMA);
     if rest.len() <= c {
         return Line::Malformed;
     }
@@ -147,7 +152,7 @@ fn read_span(word: Word, label: u64, item: u64, rest: &[u8]) -> Line
 fn read_numbers(word: Word, label: u64, rest: &[u8]) -> Line
     ensures { λ r. ⌜ r ≡ numbersForm word label (fieldsOf (now (rest .entry))) ⌝ }
 {
-    let c = comma_from(rest);
+    let c = place_of(rest, COMMA);
     if rest.len() <= c {
         return Line::Malformed;
     }
@@ -162,7 +167,7 @@ fn read_numbers(word: Word, label: u64, rest: &[u8]) -> Line
 fn read_change(word: Word, rest: &[u8]) -> Line
     ensures { λ r. ⌜ r ≡ changeForm word (fieldsOf (now (rest .entry))) ⌝ }
 {
-    let c = comma_from(rest);
+    let c = place_of(rest, COMMA);
     if rest.len() <= c {
         return Line::Malformed;
     }
@@ -180,7 +185,7 @@ pub fn read_line(line: &[u8]) -> Line
     if LINE_LENGTH < line.len() {
         return Line::Malformed;
     }
-    let c = comma_from(line);
+    let c = place_of(line, COMMA);
     if line.len() <= c {
         return Line::Malformed;
     }

@@ -17,9 +17,10 @@ use Rattle.store.specs.Store.{fitsRows}
 use Rattle.store.proofs.StoreLoops.{rows-given}
 use Rattle.checks.specs.Stores.{rowsLength, rowsUnsound}
 use Rattle.checks.proofs.Checks.{rows-fit, rows-sound}
+use Rattle.text_buffer.specs.Buffer.{Put}
 use Rattle.report.specs.Text.{rowCount, textOf}
 use Rattle.report.specs.Report.{textRoom, reportNumber, SortedStore, ReportWritten}
-use Rattle.report.specs.Steps.{SoundStore, Put}
+use Rattle.report.specs.Steps.{SoundStore}
 use Rattle.report.proofs.Partitions.{sorted-sound}
 use Rattle.report.proofs.Bounds.{row-count-sorted, text-bound}
 

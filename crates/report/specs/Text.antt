@@ -9,11 +9,8 @@ use Rattle.interval.specs.declared.tuple.Row.{Row}
 use Rattle.plan.specs.declared.Partitioning.{Partitioning}
 use Rattle.part.specs.Part.{rowsIn}
 use Rattle.store.specs.Store.{rowPart, storedRows}
-use Rattle.lines.specs.Fields.{comma, digitsOf}
-
--- the byte that ends a line
-abbrev pub lineEnd : ℕ
-lineEnd = 10
+use Rattle.lines.specs.Fields.{comma, lineEnd, digitsOf}
+use Rattle.text_buffer.specs.Buffer.{ended}
 
 -- bytes that the line `rows,COUNT` surely fits in, and a row's line
 abbrev pub headBytes : ℕ
@@ -21,10 +18,6 @@ headBytes = 16
 
 abbrev pub rowBytes : ℕ
 rowBytes = 48
-
--- bytes and the byte after them
-abbrev pub ended : List ℕ → ℕ → List ℕ
-ended bytes b = bytes ++ (b ∷ [])
 
 -- `rows`
 abbrev pub rowsBytes : List ℕ

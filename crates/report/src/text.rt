@@ -1,48 +1,19 @@
-// The text of a report, put into a buffer piece by piece: each writer is given the place to start and answers the place
-// after what it wrote.
+// The text of a report, put into a buffer piece by piece, as `text_buffer` does it: each writer is given the place to
+// start and answers the place after what it wrote.
 ghost use Prim.Native.Nat.{_+_, _≤_};
 ghost use lib.ListN.{length};
 ghost use Rattle.label.specs.Label.{lettersOf};
 ghost use Rattle.interval.specs.Tuple.{rowWidth};
 ghost use Rattle.part.specs.Part.{roomOf, counted};
 ghost use Rattle.lines.specs.Fields.{comma, digitsOf};
-ghost use Rattle.report.specs.Text.{ended, rowLine, partitionText, partitionsText, textOf};
-ghost use Rattle.report.specs.Steps.{SoundStore, Put};
+ghost use Rattle.text_buffer.specs.Buffer.{ended, Put};
+ghost use Rattle.report.specs.Text.{rowLine, partitionText, partitionsText, textOf};
+ghost use Rattle.report.specs.Steps.{SoundStore};
 use interval::tuple::Row;
 use plan::PartitionIndex;
 use plan::Partitioning;
-
-// Puts bytes.
-fn put_bytes(out: &mut [u8], at: usize, bytes: &[u8]) -> usize
-    requires { ⌜ at + length (now bytes) ≤ length (now out) ⌝ }
-    ensures { λ r. ⌜ Put at (now (bytes .entry)) (now (out .entry)) (now (out .exit)) r ⌝ }
-{
-    let n = bytes.len();
-    let mut i: usize = 0;
-    while i < n {
-        out[at + i] = bytes[i];
-        i += 1;
-    }
-    at + n
-}
-
-// Puts a number's digits and the byte after them.
-fn put_number(out: &mut [u8], at: usize, n: u64, after: u8) -> usize
-    requires { ⌜ at + length (ended (digitsOf n) after) ≤ length (now out) ⌝ }
-    ensures { λ r. ⌜ Put at (ended (digitsOf n) after) (now (out .entry)) (now (out .exit)) r ⌝ }
-{
-    let mut digits = [0u8; 21];
-    digits[20] = after;
-    digits[19] = 48 + (n % 10) as u8;
-    let mut left = n / 10;
-    let mut i: usize = 19;
-    while left != 0 {
-        i -= 1;
-        digits[i] = 48 + (left % 10) as u8;
-        left = left / 10;
-    }
-    put_bytes(out, at, &digits[i..])
-}
+use text_buffer::put_bytes;
+use text_buffer::put_number;
 
 // Puts a label's letters and a comma.
 fn put_label(out: &mut [u8], at: usize, label: u64) -> usize

@@ -8,14 +8,14 @@ use Rattle.lines.proofs.Forms.{change-none, change-label, change-number
 use Rattle.lines.proofs.read_change.Statement.{statement}
 use Rattle.lines.proofs.read_change.Tie as tie
 
-comma-from-requires : tie.Need-comma-from-requires
-comma-from-requires c κs = search needs
+place-of-requires : tie.Need-place-of-requires
+place-of-requires c κs = search needs
 
 returns : tie.Need-returns
 returns c =
     let w = c .before .before .before .args .word in
     let bs = c .before .before .before .args .rest .now in
-    let k = c .before .comma-from in
+    let k = c .before .place-of in
     change-none w bs (k .result) (k .ensures) (omega arith)
 
 sub-read-label : tie.Need-sub-read-label
@@ -41,7 +41,7 @@ returns-2 c =
     let c5 = c .before .before .before .before .before in
     let w = c5 .before .before .args .word in
     let bs = c5 .before .before .args .rest .now in
-    let k = c5 .comma-from in
+    let k = c5 .place-of in
     let r = c .before .before .read-label in
     change-label w bs (k .result) (k .ensures) (omega (arith, c .before .before .before .before .if1 .left))
     (label-refused (cutBefore (k .result) bs) (r .result) (r .ensures) (c .enum-told .given .1))
@@ -66,7 +66,7 @@ returns-3 c =
     let c5 = c .before .before .before .before .before in
     let w = c5 .before .before .before .before .before .args .word in
     let bs = c5 .before .before .before .before .before .args .rest .now in
-    let k = c5 .before .before .before .comma-from in
+    let k = c5 .before .before .before .place-of in
     let l = c5 .read-label in
     let label = c .before .before .before .named .given in
     change-numbers w bs (k .result) (k .ensures) (c .read-numbers .result) (label .0 .0)
@@ -78,7 +78,7 @@ pub read-change-spec : {M : Type 1} → statement M
 read-change-spec =
     tie.close
     (tie.spec
-    comma-from-requires
+    place-of-requires
     returns
     sub-read-label
     part-read-label-start

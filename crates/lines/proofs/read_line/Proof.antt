@@ -11,12 +11,12 @@ use Rattle.lines.proofs.read_line.Tie as tie
 returns : tie.Need-returns
 returns c = line-long (c .before .before .args .line .now) (omega arith)
 
-comma-from-requires : tie.Need-comma-from-requires
-comma-from-requires c κs = search needs
+place-of-requires : tie.Need-place-of-requires
+place-of-requires c κs = search needs
 
 returns-2 : tie.Need-returns-2
 returns-2 c =
-    let k = c .before .comma-from in
+    let k = c .before .place-of in
     line-none (c .before .before .before .before .args .line .now) (omega arith) (k .result) (k .ensures)
     (omega arith)
 
@@ -55,7 +55,7 @@ returns-3 c =
     let c5 = c .before .before .before .before .before in
     let c10 = c5 .before .before .before .before .before in
     let bs = c10 .args .line .now in
-    let k = c5 .before .before .comma-from in
+    let k = c5 .before .before .place-of in
     line-lane bs (omega (arith, c5 .before .before .before .if1 .left)) (k .result) (k .ensures)
     (c .read-lane .result) (omega (arith, c5 .before .if2 .left))
     (sym (c .before .before .same .ensures) ∙ c .before .if3 .taken) (c .read-lane .ensures)
@@ -74,7 +74,7 @@ returns-4 c =
     let c5 = c .before .before .before .before .before in
     let c10 = c5 .before .before .before .before .before in
     let bs = c10 .before .before .before .args .line .now in
-    let k = c10 .comma-from in
+    let k = c10 .place-of in
     line-change bs (omega (arith, c10 .before .if1 .left)) (k .result) (k .ensures) (c .read-change .result) DrawIn
     (omega (arith, c5 .before .before .before .before .if2 .left))
     (sym (c .before .before .same2 .ensures) ∙ c .before .if4 .taken) (c .read-change .ensures)
@@ -94,7 +94,7 @@ returns-5 c =
     let c10 = c5 .before .before .before .before .before in
     let c15 = c10 .before .before .before .before .before in
     let bs = c15 .before .args .line .now in
-    let k = c10 .before .before .before .comma-from in
+    let k = c10 .before .before .before .place-of in
     line-change bs (omega (arith, c10 .before .before .before .before .if1 .left)) (k .result) (k .ensures)
     (c .read-change2 .result) DrawOut (omega (arith, c10 .before .before .if2 .left))
     (sym (c .before .before .same3 .ensures) ∙ c .before .if5 .taken) (c .read-change2 .ensures)
@@ -114,7 +114,7 @@ returns-6 c =
     let c10 = c5 .before .before .before .before .before in
     let c15 = c10 .before .before .before .before .before in
     let bs = c15 .before .before .before .before .args .line .now in
-    let k = c15 .before .comma-from in
+    let k = c15 .before .place-of in
     line-change bs (omega (arith, c15 .before .before .if1 .left)) (k .result) (k .ensures)
     (c .read-change3 .result) SpotIn (omega (arith, c15 .if2 .left))
     (sym (c .before .before .same4 .ensures) ∙ c .before .if6 .taken) (c .read-change3 .ensures)
@@ -135,7 +135,7 @@ returns-7 c =
     let c15 = c10 .before .before .before .before .before in
     let c20 = c15 .before .before .before .before .before in
     let bs = c20 .before .before .args .line .now in
-    let k = c15 .before .before .before .before .comma-from in
+    let k = c15 .before .before .before .before .place-of in
     line-change bs (omega (arith, c20 .if1 .left)) (k .result) (k .ensures) (c .read-change4 .result) SpotOut
     (omega (arith, c15 .before .before .before .if2 .left))
     (sym (c .before .before .same5 .ensures) ∙ c .before .if7 .taken) (c .read-change4 .ensures)
@@ -147,7 +147,7 @@ returns-8 c =
     let c15 = c10 .before .before .before .before .before in
     let c20 = c15 .before .before .before .before .before in
     let bs = c20 .before .args .line .now in
-    let k = c15 .before .before .before .comma-from in
+    let k = c15 .before .before .before .place-of in
     line-other bs (omega (arith, c15 .before .before .before .before .if1 .left)) (k .result) (k .ensures)
     (omega (arith, c15 .before .before .if2 .left))
     (record {
@@ -163,7 +163,7 @@ read-line-spec =
     tie.close
     (tie.spec
     returns
-    comma-from-requires
+    place-of-requires
     returns-2
     sub-word
     part-word-start

@@ -8,15 +8,15 @@ use Rattle.lines.proofs.Forms.{numbers-none, numbers-item, numbers-span
 use Rattle.lines.proofs.read_numbers.Statement.{statement}
 use Rattle.lines.proofs.read_numbers.Tie as tie
 
-comma-from-requires : tie.Need-comma-from-requires
-comma-from-requires c κs = search needs
+place-of-requires : tie.Need-place-of-requires
+place-of-requires c κs = search needs
 
 returns : tie.Need-returns
 returns c =
     let w = c .before .before .before .args .word in
     let label = c .before .before .before .args .label in
     let bs = c .before .before .before .args .rest .now in
-    let k = c .before .comma-from in
+    let k = c .before .place-of in
     numbers-none w label bs (k .result) (k .ensures) (omega arith)
 
 sub-read-number : tie.Need-sub-read-number
@@ -43,7 +43,7 @@ returns-2 c =
     let w = c5 .before .before .args .word in
     let label = c5 .before .before .args .label in
     let bs = c5 .before .before .args .rest .now in
-    let k = c5 .comma-from in
+    let k = c5 .place-of in
     let r = c .before .before .read-number in
     numbers-item w label bs (k .result) (k .ensures) (omega (arith, c .before .before .before .before .if1 .left))
     (number-refused (cutBefore (k .result) bs) (r .result) (r .ensures) (c .enum-told .given .1))
@@ -69,7 +69,7 @@ returns-3 c =
     let w = c5 .before .before .before .before .before .args .word in
     let label = c5 .before .before .before .before .before .args .label in
     let bs = c5 .before .before .before .before .before .args .rest .now in
-    let k = c5 .before .before .before .comma-from in
+    let k = c5 .before .before .before .place-of in
     let l = c5 .read-number in
     let item = c .before .before .before .number .given in
     numbers-span w label bs (k .result) (k .ensures) (c .read-span .result) (item .0 .0)
@@ -81,7 +81,7 @@ pub read-numbers-spec : {M : Type 1} → statement M
 read-numbers-spec =
     tie.close
     (tie.spec
-    comma-from-requires
+    place-of-requires
     returns
     sub-read-number
     part-read-number-start

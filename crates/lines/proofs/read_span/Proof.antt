@@ -8,14 +8,14 @@ use Rattle.lines.proofs.Forms.{span-none, span-first, span-last, span-v
 use Rattle.lines.proofs.read_span.Statement.{statement}
 use Rattle.lines.proofs.read_span.Tie as tie
 
-comma-from-requires : tie.Need-comma-from-requires
-comma-from-requires c κs = search needs
+place-of-requires : tie.Need-place-of-requires
+place-of-requires c κs = search needs
 
 returns : tie.Need-returns
 returns c =
     let at = c .before .before .before .args in
     let bs = c .before .before .before .args .rest .now in
-    let k = c .before .comma-from in
+    let k = c .before .place-of in
     span-none (at .word) (at .label) (at .item) bs (k .result) (k .ensures) (omega arith)
 
 sub-read-number : tie.Need-sub-read-number
@@ -41,7 +41,7 @@ returns-2 c =
     let c5 = c .before .before .before .before .before in
     let at = c5 .before .before .args in
     let bs = c5 .before .before .args .rest .now in
-    let k = c5 .comma-from in
+    let k = c5 .place-of in
     let r = c .before .before .read-number in
     span-first (at .word) (at .label) (at .item) bs (k .result) (k .ensures)
     (omega (arith, c .before .before .before .before .if1 .left))
@@ -74,7 +74,7 @@ returns-3 c =
     let c10 = c5 .before .before .before .before .before in
     let at = c10 .before .before .args in
     let bs = c10 .before .before .args .rest .now in
-    let k = c10 .comma-from in
+    let k = c10 .place-of in
     let r = c .before .before .read-number2 in
     span-last (at .word) (at .label) (at .item) bs (k .result) (k .ensures)
     (omega (arith, c5 .before .before .before .before .if1 .left))
@@ -86,7 +86,7 @@ returns-4 c =
     let c10 = c5 .before .before .before .before .before in
     let at = c10 .before .before .before .args in
     let bs = c10 .before .before .before .args .rest .now in
-    let k = c10 .before .comma-from in
+    let k = c10 .before .place-of in
     let r = c5 .before .before .before .read-number in
     let s = c .before .before .before .read-number2 in
     let first = c5 .before .early .given in
@@ -100,7 +100,7 @@ pub read-span-spec : {M : Type 1} → statement M
 read-span-spec =
     tie.close
     (tie.spec
-    comma-from-requires
+    place-of-requires
     returns
     sub-read-number
     part-read-number-start

@@ -5,8 +5,9 @@ use mathlib.Core.Path.{_≡_, sym, ap, _∙_}
 use lib.ListN.{length, take}
 use Rattle.label.specs.Label.{lettersOf}
 use Rattle.lines.specs.Fields.{comma}
-use Rattle.report.specs.Text.{ended}
-use Rattle.report.proofs.Writing.{Left, left-start, left-room, left-more, left-end, letters-part, letters-count}
+use Rattle.text_buffer.specs.Buffer.{ended}
+use Rattle.text_buffer.proofs.Writing.{Left, left-start, left-room, left-more, left-end}
+use Rattle.report.proofs.Pieces.{letters-part, letters-count}
 use borrow.Author.Needs.{needs}
 use Rattle.report.proofs.text.put_label.Statement.{statement}
 use Rattle.report.proofs.text.put_label.Tie as tie

@@ -8,8 +8,9 @@ use lib.ListN.{getD, drop}
 use Rattle.lists.specs.Members.{gather}
 use Rattle.part.specs.Part.{counted, rowsIn}
 use Rattle.part.proofs.Parts.{length-rows, row-in}
+use Rattle.text_buffer.proofs.Writing.{Left, left-start, left-room, left-more, left-end}
 use Rattle.report.specs.Text.{rowLine, partitionText}
-use Rattle.report.proofs.Writing.{Left, left-start, left-room, left-more, left-end, gather-next, gather-end}
+use Rattle.report.proofs.Pieces.{gather-next, gather-end}
 use Rattle.report.proofs.text.put_partition.Statement.{statement}
 use Rattle.report.proofs.text.put_partition.Tie as tie
 

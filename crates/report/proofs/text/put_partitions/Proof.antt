@@ -8,10 +8,10 @@ use native.Mathlib.Omega.{arith}
 use Rattle.lists.specs.Members.{gather, upFrom}
 use Rattle.store.specs.Store.{rowPart}
 use Rattle.plan.proofs.Homes.{legal-plan}
+use Rattle.text_buffer.proofs.Writing.{Left, left-start, left-room, left-more, left-end}
 use Rattle.report.specs.Text.{partitionText, partitionsText}
 use Rattle.report.proofs.Partitions.{partition-inside, partition-room}
-use Rattle.report.proofs.Writing.{Left, left-start, left-room, left-more, left-end}
-use Rattle.report.proofs.Writing.{partitions-next, partitions-none}
+use Rattle.report.proofs.Pieces.{partitions-next, partitions-none}
 use Rattle.report.proofs.text.put_partitions.Statement.{statement}
 use Rattle.report.proofs.text.put_partitions.Tie as tie
 

@@ -5,9 +5,10 @@ use mathlib.Core.List.{List, [], _++_}
 use Prim.Native.Nat.{ℕ, _+_, _≤_}
 use native.Mathlib.Nat.{zero-add}
 use lib.ListN.{length}
-use Rattle.lines.specs.Fields.{comma, digitsOf}
-use Rattle.report.specs.Text.{lineEnd, ended, rowsBytes, rowCount, partitionsText, textOf}
-use Rattle.report.proofs.Writing.{Left, left-start, left-room, left-more, left-end, left-as}
+use Rattle.lines.specs.Fields.{comma, lineEnd, digitsOf}
+use Rattle.text_buffer.specs.Buffer.{ended}
+use Rattle.text_buffer.proofs.Writing.{Left, left-start, left-room, left-more, left-end, left-as}
+use Rattle.report.specs.Text.{rowsBytes, rowCount, partitionsText, textOf}
 use Rattle.report.proofs.Bounds.{text-pieces}
 use borrow.Author.Needs.{needs}
 use Rattle.report.proofs.text.put_report.Statement.{statement}

@@ -4,11 +4,11 @@ use mathlib.Core.List.{List, [], _++_}
 use Prim.Native.Nat.{ℕ, _+_, _≤_}
 use lib.ListN.{length}
 use Rattle.label.specs.Label.{lettersOf}
-use Rattle.lines.specs.Fields.{comma, digitsOf}
-use Rattle.report.specs.Text.{lineEnd, ended, rowLine}
-use Rattle.report.specs.Steps.{Put}
-use Rattle.report.proofs.Writing.{Left, left-start, left-room, left-more, left-end, left-as, row-fields}
-use Rattle.report.proofs.Writing.{afterPartition, afterLabel, afterOuter, afterInner, afterFirst}
+use Rattle.lines.specs.Fields.{comma, lineEnd, digitsOf}
+use Rattle.text_buffer.specs.Buffer.{ended, Put}
+use Rattle.text_buffer.proofs.Writing.{Left, left-start, left-room, left-more, left-end, left-as}
+use Rattle.report.specs.Text.{rowLine}
+use Rattle.report.proofs.Pieces.{row-fields, afterPartition, afterLabel, afterOuter, afterInner, afterFirst}
 use borrow.Author.Needs.{needs}
 use Rattle.report.proofs.text.put_row.Statement.{statement}
 use Rattle.report.proofs.text.put_row.Tie as tie

@@ -1,24 +1,15 @@
--- Putting text into a buffer piece by piece (specs/Steps: written, Put). In order: one piece after another; `Left`,
--- what is left to put, the invariant of every writer, with its laws; one byte; the fields of a row's line, the rows
--- of a lane, the lanes, each as the next piece and what is left after it; letters.
+-- Putting text into a buffer piece by piece (specs/Buffer: written, Put). In order: one piece after another; `Left`,
+-- what is left to put, the invariant of every writer, with its laws; one byte.
 -- Assumes nothing.
-use mathlib.Core.List.{List, [], _∷_, _++_, append-assoc, append-nil}
+use mathlib.Core.List.{List, [], _∷_, _++_, append-assoc}
 use mathlib.Core.Path.{_≡_, refl, sym, ap, ap₂, _∙_}
-use Prim.Native.Nat.{ℕ, _+_, _-_, _≤_, _<_}
+use Prim.Native.Nat.{ℕ, _+_, _≤_, _<_}
 use native.Mathlib.Nat.{add-zero}
 use native.Mathlib.Numerals.{add-one}
 use native.Mathlib.Omega.{arith}
-use lib.ListN.{length, getD, take, drop, set, replicate, length-append, length-drop, take-append-drop}
-use lib.ListN.{drop-of-length-le}
-use lib.Seq.{length-take-le, take-at, drop-at, drop-drop, drop-cons, set-split}
-use Rattle.lists.specs.Members.{gather, upFrom}
-use Rattle.lists.proofs.Below.{up-next, up-end}
-use Rattle.label.specs.Label.{labelLength, lettersOf, LettersWritten}
-use Rattle.label.specs.declared.Letters.{Letters}
-use Rattle.interval.specs.declared.tuple.Row.{Row}
-use Rattle.lines.specs.Fields.{comma, digitsOf}
-use Rattle.report.specs.Text.{lineEnd, ended, rowLine}
-use Rattle.report.specs.Steps.{written, Put}
+use lib.ListN.{length, take, drop, set, length-append, length-drop, take-append-drop}
+use lib.Seq.{length-take-le, take-at, drop-at, drop-drop, set-split}
+use Rattle.text_buffer.specs.Buffer.{written, Put}
 
 -- ---- one piece after another
 
@@ -100,57 +91,3 @@ left-as start whole out at now left left′ e l = rw e at l
 
 pub put-one : (at : ℕ) (b : ℕ) (out : List ℕ) → at < length out → Put at (b ∷ []) out (set out at b) (at + 1)
 put-one at b out h = record { holds = set-split out at b h ∙ rw add-one; place = refl }
-
--- ---- the pieces of a row's line, of a lane, of all lanes
-
--- what stands after each field of a row's line
-abbrev pub afterFirst : Row → List ℕ
-afterFirst r = ended (digitsOf (r .valid .last .0)) lineEnd ++ []
-
-abbrev pub afterInner : Row → List ℕ
-afterInner r = ended (digitsOf (r .valid .first .0)) comma ++ afterFirst r
-
-abbrev pub afterOuter : Row → List ℕ
-afterOuter r = ended (digitsOf (r .inner)) comma ++ afterInner r
-
-abbrev pub afterLabel : Row → List ℕ
-afterLabel r = ended (digitsOf (r .outer)) comma ++ afterOuter r
-
-abbrev pub afterPartition : Row → List ℕ
-afterPartition r = ended (lettersOf (r .label)) comma ++ afterLabel r
-
-pub row-fields : (partition : ℕ) (r : Row) → rowLine partition r ≡ ended (digitsOf partition) comma ++ afterPartition r
-unfolding rowLine
-row-fields partition r = rw (append-nil (ended (digitsOf (r .valid .last .0)) lineEnd))
-
--- the pieces made of each member from place k on
-module _ {A : Type 0} (f : A → List ℕ) (xs : List A) where
-  pub gather-next : (k : ℕ) (x : A) → k < length xs → getD xs k x ≡ x
-      → gather f (drop k xs) ≡ f x ++ gather f (drop (k + 1) xs)
-  gather-next k x h e = rw (add-one, drop-cons xs k x h, e)
-
-  pub gather-end : (k : ℕ) → length xs ≤ k → gather f (drop k xs) ≡ []
-  gather-end k h = rw (drop-of-length-le xs h)
-
--- those of the numbers from i on below n
-module _ (f : ℕ → List ℕ) (n : ℕ) where
-  pub partitions-next : (i : ℕ) → i < n → gather f (upFrom i (n - i)) ≡ f i ++ gather f (upFrom (i + 1) (n - (i + 1)))
-  partitions-next i h = ap (gather f) (up-next i n h)
-
-  pub partitions-none : (i : ℕ) → n ≤ i → gather f (upFrom i (n - i)) ≡ []
-  partitions-none i h = ap (gather f) (up-end i n h)
-
--- ---- a label's letters: the first bytes of those that were written
-
-module _ (n : ℕ) (r : Letters) (w : LettersWritten n r) where
-  pub letters-part : take (r .count) (r .bytes) ≡ lettersOf n
-  letters-part = rw (w .bytes) (take-at (lettersOf n) _ (r .count) (sym (w .count)))
-
-  pub letters-count : r .count ≤ length (r .bytes)
-  letters-count =
-      omega (
-        arith,
-        w .count,
-        ap length (w .bytes),
-        length-append (lettersOf n) (replicate (labelLength - length (lettersOf n)) 0),
-      )

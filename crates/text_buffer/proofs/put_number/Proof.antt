@@ -1,14 +1,14 @@
--- `report::text::put_number` meets its contract. The loop's invariant is `DigitsLeft`: the digits in hand are the
+-- `text_buffer::put_number` meets its contract. The loop's invariant is `DigitsLeft`: the digits in hand are the
 -- number's last. The measure is what is left of the number. Assumes nothing.
 use Prim.Native.Nat.{_-_}
 use mathlib.Core.Path.{_≡_}
 use native.Mathlib.Omega.{arith}
 use lib.ListN.{take, drop}
 use Rattle.lines.specs.Fields.{digitsOf}
-use Rattle.report.specs.Text.{ended}
-use Rattle.report.proofs.Digits.{DigitsLeft, digits-start, digits-room, digits-more, digits-end}
-use Rattle.report.proofs.text.put_number.Statement.{statement}
-use Rattle.report.proofs.text.put_number.Tie as tie
+use Rattle.text_buffer.specs.Buffer.{ended}
+use Rattle.text_buffer.proofs.Digits.{DigitsLeft, digits-start, digits-room, digits-more, digits-end}
+use Rattle.text_buffer.proofs.put_number.Statement.{statement}
+use Rattle.text_buffer.proofs.put_number.Tie as tie
 
 abbrev Inv-loop : tie.InvT-loop
 Inv-loop out at n after digits₀ left₀ i₀ digits left i = DigitsLeft n after digits left i

@@ -1,4 +1,4 @@
--- `report::text::put_bytes` meets its contract. The loop's invariant is `Left`: the bytes from place i on are left to
+-- `text_buffer::put_bytes` meets its contract. The loop's invariant is `Left`: the bytes from place i on are left to
 -- put. The measure is how many. Assumes nothing.
 use mathlib.Core.List.{[], _∷_}
 use mathlib.Core.Path.{refl}
@@ -8,9 +8,9 @@ use native.Mathlib.Numerals.{add-one}
 use native.Mathlib.Omega.{arith}
 use lib.ListN.{getD, drop, drop-of-length-le}
 use lib.Seq.{drop-cons}
-use Rattle.report.proofs.Writing.{Left, left-start, left-more, left-end, put-one}
-use Rattle.report.proofs.text.put_bytes.Statement.{statement}
-use Rattle.report.proofs.text.put_bytes.Tie as tie
+use Rattle.text_buffer.proofs.Writing.{Left, left-start, left-more, left-end, put-one}
+use Rattle.text_buffer.proofs.put_bytes.Statement.{statement}
+use Rattle.text_buffer.proofs.put_bytes.Tie as tie
 
 abbrev Inv-loop : tie.InvT-loop
 Inv-loop out₀ at bytes n i₀ out i = Left at bytes out₀ (at + i) (drop i bytes) out

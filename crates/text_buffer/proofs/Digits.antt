@@ -9,7 +9,7 @@ use lib.ListN.{length, take, drop, set, replicate, length-set, length-drop}
 use lib.Seq.{take-all, drop-cons, drop-set-lt, getD-set-same}
 use borrow.Author.Tests.{ne-eqb}
 use Rattle.lines.specs.Fields.{digitsBefore, digitsOf}
-use Rattle.report.specs.Text.{ended}
+use Rattle.text_buffer.specs.Buffer.{ended}
 
 -- ---- digits in front of others
 
