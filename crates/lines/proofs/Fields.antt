@@ -18,7 +18,7 @@ use Rattle.lists.specs.Choice.{pick}
 use Rattle.lists.specs.Members.{any, placeOf}
 use Rattle.lists.proofs.Choice.{bool-cases, and-left, and-right, or-neither-left, or-neither-right}
 use Rattle.lists.proofs.Tally.{place-found, place-none}
-use Rattle.lines.specs.Fields.{comma, isComma, onFirst, fieldsOf, sameBytes}
+use Rattle.lines.specs.Fields.{comma, isByte, isComma, onFirst, fieldsOf, sameBytes}
 
 -- ---- the fields of bytes
 
@@ -47,14 +47,25 @@ pub fields-first : (bs : List ℕ) → any isComma bs ≡ true
     → fieldsOf bs ≡ take (placeOf isComma bs) bs ∷ fieldsOf (drop (placeOf isComma bs + 1) bs)
 fields-first bs e = rw add-one (first-suc bs e)
 
--- by the place of the first comma, as a reader finds it: there is one where the place lies within the bytes
-pub comma-there : (bs : List ℕ) (k : ℕ) → k ≡ placeOf isComma bs → k < length bs → any isComma bs ≡ true
-comma-there bs k e h =
-    ⊎-elim (λ t. t) (λ t. absurd (omega (arith, place-none isComma bs t))) (bool-cases (any isComma bs))
+-- by the place of the first of a byte, as a reader finds it: there is one where the place lies within the bytes, and
+-- none before the place
+module _ (byte : ℕ) (bs : List ℕ) where
+  pub byte-there : (k : ℕ) → k ≡ placeOf (isByte byte) bs → k < length bs → any (isByte byte) bs ≡ true
+  byte-there k e h =
+      ⊎-elim (λ t. t) (λ t. absurd (omega (arith, place-none (isByte byte) bs t))) (bool-cases (any (isByte byte) bs))
 
-pub comma-none : (bs : List ℕ) (k : ℕ) → k ≡ placeOf isComma bs → length bs ≤ k → any isComma bs ≡ false
-comma-none bs k e h =
-    ⊎-elim (λ t. absurd (omega (arith, place-found isComma bs t))) (λ t. t) (bool-cases (any isComma bs))
+  pub byte-none : (k : ℕ) → k ≡ placeOf (isByte byte) bs → length bs ≤ k → any (isByte byte) bs ≡ false
+  byte-none k e h =
+      ⊎-elim (λ t. absurd (omega (arith, place-found (isByte byte) bs t))) (λ t. t) (bool-cases (any (isByte byte) bs))
+
+pub none-before : (byte : ℕ) (bs : List ℕ) → any (isByte byte) (take (placeOf (isByte byte) bs) bs) ≡ false
+none-before byte [] = refl
+none-before byte (b ∷ bs) = go (isByte byte b) refl (none-before byte bs)
+  where
+    go : (t : Bool) → isByte byte b ≡ t → any (isByte byte) (take (placeOf (isByte byte) bs) bs) ≡ false
+        → any (isByte byte) (take (pick t 0 (suc (placeOf (isByte byte) bs))) (b ∷ bs)) ≡ false
+    go true e h = refl
+    go false e h = rw e h
 
 -- what the code cuts at a comma at place k: `&bs[0..k]` before it, `&bs[k + 1..]` after it
 abbrev pub cutBefore : ℕ → List ℕ → List ℕ
@@ -70,10 +81,10 @@ fields-cut bs k e h =
     let left : length (drop (k + 1) bs) ≤ length bs - (k + 1) = omega (arith, length-drop (k + 1) bs) in
     rw (whole, take-all (length bs - (k + 1)) (drop (k + 1) bs) left)
     (subst (λ (j : ℕ). fieldsOf bs ≡ take j bs ∷ fieldsOf (drop (j + 1) bs)) (sym e)
-    (fields-first bs (comma-there bs k e h)))
+    (fields-first bs (byte-there comma bs k e h)))
 
 pub fields-none : (bs : List ℕ) (k : ℕ) → k ≡ placeOf isComma bs → length bs ≤ k → fieldsOf bs ≡ bs ∷ []
-fields-none bs k e h = fields-one bs (comma-none bs k e h)
+fields-none bs k e h = fields-one bs (byte-none comma bs k e h)
 
 -- ---- how many fields there are
 

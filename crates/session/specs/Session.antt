@@ -44,6 +44,10 @@ wallTuples = 32
 abbrev pub wallRows : ℕ
 wallRows = 64
 
+-- the most rows that the wall holds: 8 lanes of 64, 512
+abbrev pub wallRowsMost : ℕ
+wallRowsMost = wallPartitions * wallRows
+
 -- before the first line: no lane, and 0 in every place
 abbrev pub fresh : Session
 fresh = record { lanes = 0; lasts = replicate mostPartitions (record { 0 = 0 }); complete = false }

@@ -101,3 +101,14 @@ pub digits-length : (m n : ℕ) → 1 ≤ m → n < 10 ^ m → length (digitsOf 
 unfolding digitsOf
 digits-length m zero l h = omega arith
 digits-length m (suc n) l h = rw (digits-above n) (omega (arith, digits-most 20 m (suc n) [] h))
+
+-- however large the number is
+digits-bound : (k n : ℕ) (after : List ℕ) → length (digitsBefore k n after) ≤ k + length after
+digits-bound zero n after = omega arith
+digits-bound (suc k) zero after = omega arith
+digits-bound (suc k) (suc m) after = omega (arith, digits-bound k (suc m / 10) ((48 + suc m % 10) ∷ after))
+
+pub digits-twenty : (n : ℕ) → length (digitsOf n) ≤ 20
+unfolding digitsOf
+digits-twenty zero = omega arith
+digits-twenty (suc n) = rw (digits-above n) (omega (arith, digits-bound 20 (suc n) []))

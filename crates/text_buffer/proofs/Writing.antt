@@ -17,6 +17,9 @@ use Rattle.text_buffer.specs.Buffer.{written, Put}
 written-none : (at : ℕ) (out : List ℕ) → written at [] out ≡ out
 written-none at out = rw add-zero (take-append-drop at out)
 
+pub put-none : (at : ℕ) (out : List ℕ) → Put at [] out out at
+put-none at out = record { holds = sym (written-none at out); place = sym (add-zero at) }
+
 module _ (at : ℕ) (s : List ℕ) (out : List ℕ) (h : at + length s ≤ length out) where
   -- what is before the next place, and what is after it
   head : List ℕ

@@ -17,13 +17,13 @@ use Rattle.report.specs.declared.Reported.{Reported}
 use Rattle.lines.specs.Line.{lineOf}
 use Rattle.lines.specs.declared.Line.{Line}
 use Rattle.lines.specs.declared.Line.the-variants.{Lane, Change, Malformed}
-use Rattle.session.specs.Session.{planOf, wallOf, SteppedBy}
+use Rattle.session.specs.Session.{wallRowsMost, planOf, wallOf, SteppedBy}
 use Rattle.session.specs.declared.Session.{Session}
 use Rattle.session.specs.declared.Stepped.{Stepped}
 use Rattle.session.proofs.Reached.{Good, reached-good}
 use Rattle.transcript.specs.Transcript.{Transcript, begun, then}
 use Rattle.transcript.specs.Rows.{printedRows}
-use Rattle.transcript.specs.SessionKept.{Framed, AllFramed, Printed, wallRowsMost, SessionKept}
+use Rattle.transcript.specs.SessionKept.{Framed, AllFramed, Printed, SessionKept}
 use Rattle.transcript.proofs.Holding.{Holding, change-complete, change-frame, reached, holding}
 use Rattle.transcript.proofs.Numbers.{all-met}
 use Rattle.transcript.proofs.Reported.{report-accepted}

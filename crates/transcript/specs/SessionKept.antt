@@ -3,7 +3,7 @@ use mathlib.Core.Bool.{Bool, true}
 use mathlib.Core.List.{List, [], _∷_, _++_}
 use mathlib.Core.Option.{some}
 use mathlib.Core.Path.{_≡_}
-use Prim.Native.Nat.{ℕ, _*_, _≤_}
+use Prim.Native.Nat.{ℕ, _≤_}
 use lib.Dec.{eqb}
 use lib.ListN.{length, drop}
 use Rattle.lists.specs.Members.{all, any}
@@ -18,7 +18,7 @@ use Rattle.report.specs.declared.Reported.{Reported}
 use Rattle.lines.specs.Line.{lineOf}
 use Rattle.lines.specs.declared.Line.{Line}
 use Rattle.lines.specs.declared.Line.the-variants.{Lane, Change, Malformed}
-use Rattle.session.specs.Session.{wallPartitions, wallRows, EightPartitions, planOf, wallOf}
+use Rattle.session.specs.Session.{wallRowsMost, EightPartitions, planOf, wallOf}
 use Rattle.session.specs.declared.Session.{Session}
 use Rattle.transcript.specs.Transcript.{Transcript, begun, then}
 use Rattle.transcript.specs.Rows.{printedRows}
@@ -49,10 +49,6 @@ pub record Printed (p : Partitioning) (rs : List Row) (out out′ : List ℕ) (r
   pub number : r .number ≡ 0
   pub bytes : r .bytes ≡ length (printedRows p rs)
   pub text : out′ ≡ printedRows p rs ++ drop (length (printedRows p rs)) out
-
--- the most rows that the program's wall holds: 8 lanes of 64, 512
-abbrev pub wallRowsMost : ℕ
-wallRowsMost = wallPartitions * wallRows
 
 -- what holds after the lines of a transcript
 pub record LinesKept {S₀ : Stores} {ns : List ℕ} {ts : List Told} {s : Session} {S : Stores}
