@@ -37,10 +37,10 @@ use Rattle.checks.specs.declared.Answer.{Answer}
 use Rattle.insertion.specs.Changes.{Grown}
 use Rattle.deletion.specs.Deletes.{deleted}
 use Rattle.join.specs.Changes.{ownStore, otherStore, deleteNumber, Deleted}
-use Rattle.history.specs.Machine.{delete, Machine, takeOut}
+use Rattle.history.specs.Machine.{delete, Machine, ownTuples, takeOut}
 use Rattle.history.proofs.Changes.{home-in-plan, join-made, untouched}
 use Rattle.history.proofs.Held.{TupleStore, RowStore, Wall, join-from-same, rows-held-same}
-use Rattle.history.proofs.Kept.{Kept, Done, ownTuples, otherTuples, withOwn, kept-from, kept-with}
+use Rattle.history.proofs.Kept.{Kept, Done, otherTuples, withOwn, kept-from, kept-with}
 use Rattle.history.proofs.Kept.{told-accepted, done-refused}
 
 -- ---- helpers on lists

@@ -33,10 +33,10 @@ use Rattle.insertion.specs.Changes.{Grown}
 use Rattle.insertion.specs.Inserts.{full, inserted}
 use Rattle.insertion.proofs.Sites.{legal-is}
 use Rattle.join.specs.Changes.{ownStore, otherStore, insertNumber, Inserted}
-use Rattle.history.specs.Machine.{insert, Machine, put}
+use Rattle.history.specs.Machine.{insert, Machine, ownTuples, put}
 use Rattle.history.proofs.Changes.{home-in-plan, join-made, untouched}
 use Rattle.history.proofs.Held.{TupleStore, RowStore, Wall, rows-held-same}
-use Rattle.history.proofs.Kept.{Kept, Done, ownTuples, otherTuples, withOwn, kept-from, kept-with}
+use Rattle.history.proofs.Kept.{Kept, Done, otherTuples, withOwn, kept-from, kept-with}
 use Rattle.history.proofs.Kept.{told-accepted, done-refused}
 
 -- ---- the own store

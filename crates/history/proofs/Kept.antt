@@ -22,7 +22,7 @@ use Rattle.rows.specs.declared.Side.the-variants.{Outer, Inner}
 use Rattle.checks.specs.Stores.{Stores, fitsAll, sound}
 use Rattle.checks.proofs.Checks.{all-hold}
 use Rattle.join.specs.Changes.{ownStore, otherStore}
-use Rattle.history.specs.Machine.{Call, Machine, accept, told}
+use Rattle.history.specs.Machine.{Call, Machine, ownTuples, accept, told}
 use Rattle.history.specs.KeptCurrent.{Current, Owed}
 use Rattle.history.proofs.Held.{TupleStore, RowStore, Wall, tuples-held-at}
 
@@ -55,11 +55,7 @@ kept-current-now m p s k = record {
 
 -- ---- seen from one side
 
--- the machine's tuples of the side, and of the other
-abbrev pub ownTuples : Side → Machine → List Tuple
-ownTuples Outer m = m .outer
-ownTuples Inner m = m .inner
-
+-- the machine's tuples of the other side
 abbrev pub otherTuples : Side → Machine → List Tuple
 otherTuples Outer m = m .inner
 otherTuples Inner m = m .outer

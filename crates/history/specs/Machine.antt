@@ -33,6 +33,11 @@ pub record Machine : Type 0 where
   pub outer : List Tuple
   pub inner : List Tuple
 
+-- the tuples of a side
+abbrev pub ownTuples : Side → Machine → List Tuple
+ownTuples Outer m = m .outer
+ownTuples Inner m = m .inner
+
 -- "An accepted insert adds its tuple on its side."
 abbrev pub put : Side → Tuple → Machine → Machine
 put Outer t m = record { plan = m .plan; outer = t ∷ m .outer; inner = m .inner }

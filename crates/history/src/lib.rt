@@ -1,2 +1,3 @@
 // Lists of calls: demand 3 of document 01, one theorem about every list of inserts, deletes, sweeps and repartitions on
-// a freshly opened wall. No code: specs/KeptCurrent.antt states it, proofs/Current.antt proves it.
+// a freshly opened wall; and what an insert or a delete is answered after such a list, by what the wall holds. No code:
+// specs/KeptCurrent.antt and specs/Answering.antt state it, proofs/Current.antt and proofs/Answered.antt prove it.

@@ -36,7 +36,7 @@ use Rattle.session.specs.declared.Session.{Session}
 use Rattle.session.specs.declared.Stepped.{Stepped}
 use Rattle.session.proofs.Lanes.{lane-passed}
 use Rattle.session.proofs.Steps.{after-accepted}
-use Rattle.session.proofs.Reached.{Reached, Good, good-with, reached-good, plan-legal}
+use Rattle.session.proofs.Reached.{Reached, Good, good-after, reached-good, plan-legal}
 use Rattle.session.proofs.Reached.{begun as reached-start, then as reached-next}
 use Rattle.transcript.specs.Transcript.{callOf, heard, Transcript, begun, then}
 
@@ -68,8 +68,8 @@ holding-told c n ts s S ne h = record {
       (k .0, machine-next (planOf s) _ ts (k .0) (k .0) (k .1) (told-refused c n (k .0) ne), k .2);
 }
 
--- the call that a word asks for
-called-step : (w : Word) (p : Partitioning) (t : Tuple) (S S′ : Stores) (a : Answer) → Called w p t S S′ a
+-- the call that a word asks for is one of demand 3
+pub called-step : (w : Word) (p : Partitioning) (t : Tuple) (S S′ : Stores) (a : Answer) → Called w p t S S′ a
     → Step p S (callOf w t) a p S′
 called-step DrawIn p t S S′ a h = inserted h
 called-step DrawOut p t S S′ a h = deleted h
@@ -84,35 +84,36 @@ owed-frame DrawOut t p p′ s s′ n after o = o
 owed-frame SpotIn t p p′ s s′ n after o = o
 owed-frame SpotOut t p p′ s s′ n after o = o
 
+-- an accepted change comes after the plan is complete
+pub change-complete : (s : Session) (w : Word) (t : Tuple) (S : Stores) → changeLineNumber s w t S ≡ 0
+    → s .complete ≡ true
+unfolding changeLineNumber
+change-complete s w t S z =
+    not-false (s .complete)
+    (refuse-none (not (s .complete)) 15 (first-none (refuseIf (not (s .complete)) 16) _ z .0))
+
+-- and on a wall that holds what a machine holds, it leaves what the machine makes of it, and its frame
+module _ (s : Session) (w : Word) (t : Tuple) (S S′ : Stores) (m : Machine) (k : Kept m (planOf s) (wallOf s S))
+    (c : WallChanged s w t S S′) where
+  pub change-done : Done m (planOf s) (wallOf s S) (callOf w t) (c .answer .number) (planOf s) (wallOf s S′)
+  change-done = step-done m k (called-step w (planOf s) t (wallOf s S) (wallOf s S′) (c .answer) (c .wall))
+
+  pub change-frame : Untouched (planOf s) t (wallOf s S .rows) (wallOf s S′ .rows)
+  change-frame = owed-frame w t (planOf s) (planOf s) (wallOf s S) (wallOf s S′) _ _ (change-done .owed) (c .number)
+
 module _ (s : Session) (w : Word) (t : Tuple) (S S′ : Stores) (ts : List Told) (h : Holding ts s S) where
-  -- an accepted one comes after the plan is complete
-  pub change-complete : changeLineNumber s w t S ≡ 0 → s .complete ≡ true
-  unfolding changeLineNumber
-  change-complete z =
-      not-false (s .complete)
-      (refuse-none (not (s .complete)) 15 (first-none (refuseIf (not (s .complete)) 16) _ z .0))
-
-  -- and is one call of demand 3
-  module _ (c : WallChanged s w t S S′) (e : s .complete ≡ true) where
-    change-done : Done (h .late e .0) (planOf s) (wallOf s S) (callOf w t) (c .answer .number) (planOf s) (wallOf s S′)
-    change-done =
-        let k = h .late e in
-        step-done (k .0) (k .2) (called-step w (planOf s) t (wallOf s S) (wallOf s S′) (c .answer) (c .wall))
-
-    change-kept : (n : ℕ) → n ≡ 0
-        → (m : Machine) × (machineAfter (planOf s) (record { call = callOf w t; number = n } ∷ ts) ≡ some m)
-        × Kept m (planOf s) (wallOf s S′)
-    change-kept n z =
-        let k = h .late e in
-        let same : n ≡ c .answer .number = z ∙ sym (c .number) in (
-          change-done .after,
-          machine-next (planOf s) _ ts (k .0) (change-done .after) (k .1)
-              (ap (λ (i : ℕ). told (record { call = callOf w t; number = i }) (k .0)) same ∙ change-done .machine),
-          change-done .kept,
-        )
-
-    pub change-frame : Untouched (planOf s) t (wallOf s S .rows) (wallOf s S′ .rows)
-    change-frame = owed-frame w t (planOf s) (planOf s) (wallOf s S) (wallOf s S′) _ _ (change-done .owed) (c .number)
+  change-kept : WallChanged s w t S S′ → s .complete ≡ true → (n : ℕ) → n ≡ 0
+      → (m : Machine) × (machineAfter (planOf s) (record { call = callOf w t; number = n } ∷ ts) ≡ some m)
+      × Kept m (planOf s) (wallOf s S′)
+  change-kept c e n z =
+      let k = h .late e in
+      let d = change-done s w t S S′ (k .0) (k .2) c in
+      let same : n ≡ c .answer .number = z ∙ sym (c .number) in (
+        d .after,
+        machine-next (planOf s) _ ts (k .0) (d .after) (k .1)
+            (ap (λ (i : ℕ). told (record { call = callOf w t; number = i }) (k .0)) same ∙ d .machine),
+        d .kept,
+      )
 
   holding-change : (r : Stepped) → SteppedBy s (Change w t) S S′ r
       → Holding (record { call = callOf w t; number = r .number } ∷ ts) (r .session) S′
@@ -128,7 +129,7 @@ module _ (s : Session) (w : Word) (t : Tuple) (S S′ : Stores) (ts : List Told)
           let is : r .session ≡ s = b .session ∙ after-accepted s (Change w t) S n in
           rw is
           (record {
-            early = λ u. absurd (true≢false (sym (change-complete n) ∙ u));
+            early = λ u. absurd (true≢false (sym (change-complete s w t S n) ∙ u));
             late = λ c. change-kept (b .accepted z) c (r .number) z;
           })
 
@@ -139,46 +140,48 @@ module _ (s : Session) (w : Word) (t : Tuple) (S S′ : Stores) (ts : List Told)
 
 -- ---- a lane line
 
+-- an accepted one: its own checks passed, and the session with the lane is one that steps reach
+module _ (s : Session) (m : Chronon) (S : Stores) (z : laneNumber s m S ≡ 0) where
+  pub lane-checked : laneCheck s (m .0) ≡ 0
+  unfolding laneNumber
+  lane-checked = first-none (laneCheck s (m .0)) _ z .0
+
+  pub lane-after : Good s → Good (withLane s m)
+  lane-after g = rw (after-accepted s (Lane m) S z) at (good-after s (Lane m) S g)
+
+  opens : m .0 ≡ calendarEnd → openNumber (planOf (withLane s m)) (wallOf (withLane s m) S) ≡ 0
+  unfolding laneNumber
+  opens e =
+      let n = openNumber (planOf (withLane s m)) (wallOf (withLane s m) S) in
+      sym (pick-true (eqb (m .0) calendarEnd) n 0 (eq-eqb (m .0) calendarEnd e))
+      ∙ first-none (pick (eqb (m .0) calendarEnd) n 0) [] (first-none (laneCheck s (m .0)) _ z .1) .0
+
+  -- completing the plan, it opens the wall, which then holds what the first machine holds: nothing
+  pub blank-kept : (S′ : Stores) → Good s → LaneTaken s m S S′ → m .0 ≡ calendarEnd
+      → Kept (first (planOf (withLane s m))) (planOf (withLane s m)) (wallOf (withLane s m) S′)
+  blank-kept S′ g taken e =
+      let v = withLane s m in
+      let good = lane-after g in
+      let a : Answer = record { number = 0; changed = 0; examined = 0 } in
+      let o : Opened (planOf v) (wallOf v S) (wallOf v S′) a = record {
+        number = sym (opens e);
+        changed = refl;
+        examined = refl;
+        refused = λ ne. absurd (ne refl);
+        accepted = λ q. taken .completing e .wall;
+      } in
+      opened-kept (planOf v) (good .places) (plan-legal v good (eq-eqb (m .0) calendarEnd e)) (wallOf v S)
+      (wallOf v S′) a o refl
+
 module _ (s : Session) (m : Chronon) (S S′ : Stores) (ts : List Told) (g : Good s) (h : Holding ts s S) where
-  -- accepted, and completing the plan: the wall is opened
-  module _ (z : laneNumber s m S ≡ 0) (taken : LaneTaken s m S S′) where
-    checked : laneCheck s (m .0) ≡ 0
-    unfolding laneNumber
-    checked = first-none (laneCheck s (m .0)) _ z .0
-
-    after-good : Good (withLane s m)
-    after-good = let p = lane-passed s (m .0) checked in good-with s m g (p .1) (p .0)
-
-    opens : m .0 ≡ calendarEnd → openNumber (planOf (withLane s m)) (wallOf (withLane s m) S) ≡ 0
-    unfolding laneNumber
-    opens e =
-        let n = openNumber (planOf (withLane s m)) (wallOf (withLane s m) S) in
-        sym (pick-true (eqb (m .0) calendarEnd) n 0 (eq-eqb (m .0) calendarEnd e))
-        ∙ first-none (pick (eqb (m .0) calendarEnd) n 0) [] (first-none (laneCheck s (m .0)) _ z .1) .0
-
-    blank-kept : m .0 ≡ calendarEnd
-        → Kept (first (planOf (withLane s m))) (planOf (withLane s m)) (wallOf (withLane s m) S′)
-    blank-kept e =
-        let v = withLane s m in
-        let a : Answer = record { number = 0; changed = 0; examined = 0 } in
-        let o : Opened (planOf v) (wallOf v S) (wallOf v S′) a = record {
-          number = sym (opens e);
-          changed = refl;
-          examined = refl;
-          refused = λ ne. absurd (ne refl);
-          accepted = λ q. taken .completing e .wall;
-        } in
-        opened-kept (planOf v) (after-good .places) (plan-legal v after-good (eq-eqb (m .0) calendarEnd e)) (wallOf v S)
-        (wallOf v S′) a o refl
-
-    holding-taken : Holding ts (withLane s m) S′
-    holding-taken =
-        let p = planOf (withLane s m) in
-        let before = h .early (lane-passed s (m .0) checked .0) in
-        record {
-          early = λ u. before;
-          late = λ c. (first p, before p, blank-kept (eqb-true (m .0) calendarEnd c));
-        }
+  holding-taken : laneNumber s m S ≡ 0 → LaneTaken s m S S′ → Holding ts (withLane s m) S′
+  holding-taken z taken =
+      let p = planOf (withLane s m) in
+      let before = h .early (lane-passed s (m .0) (lane-checked s m S z) .0) in
+      record {
+        early = λ u. before;
+        late = λ c. (first p, before p, blank-kept s m S z S′ g taken (eqb-true (m .0) calendarEnd c));
+      }
 
   holding-lane : (r : Stepped) → SteppedBy s (Lane m) S S′ r → Holding ts (r .session) S′
   holding-lane r b = ⊎-elim accepted refused (bool-cases (eqb (r .number) 0))

@@ -1,6 +1,5 @@
--- The proof: a wall that holds what the machine holds never gives 12; what every line keeps; the numbers that lines
--- get; the report, that it is not refused and what it prints; the theorem; closed cases of the definitions.
-pub mod Lacking
+-- The proof: what every line keeps; the numbers that lines get; the report, that it is not refused and what it prints;
+-- the theorem; closed cases of the definitions.
 pub mod Holding
 pub mod Numbers
 pub mod Reported

@@ -1,67 +1,87 @@
--- The numbers that lines get: neither 5 nor 12, since the wall of a complete plan holds what the machine holds.
+-- The numbers that lines get: neither 5 nor 12, since the wall of a complete plan holds what the machine holds, and a
+-- change on it gets the number that the machine gives.
 -- Assumes nothing.
-use mathlib.Core.Bool.{true}
-use mathlib.Core.List.{List, _∷_}
+use mathlib.Core.Bool.{true, _||_}
+use mathlib.Core.List.{List}
 use mathlib.Core.Path.{_≡_, refl, ap, _∙_}
 use Prim.Native.Nat.{ℕ}
-use lib.Dec.{eqb}
-use borrow.Author.Tests.{not-true}
-use Rattle.lists.specs.Choice.{firstOf}
+use lib.Dec.{ltb}
 use Rattle.lists.specs.Members.{all}
 use Rattle.lists.proofs.Choice.{and-both}
 use Rattle.label.specs.Label.{labelCheck}
+use Rattle.interval.specs.Time.{calendarEnd}
+use Rattle.interval.specs.Tuple.{itemEnd, itemCheck, validCheck, tupleNumber}
 use Rattle.interval.specs.declared.tuple.Tuple.{Tuple}
-use Rattle.checks.specs.Stores.{Stores, sound, storeNumber}
-use Rattle.checks.proofs.Checks.{stores-are}
-use Rattle.history.specs.Machine.{Told}
-use Rattle.history.proofs.Kept.{kept-current-now}
+use Rattle.plan.specs.declared.Partitioning.{Partitioning}
+use Rattle.rows.specs.declared.Side.{Side}
+use Rattle.rows.specs.declared.Side.the-variants.{Outer, Inner}
+use Rattle.checks.specs.Stores.{Stores}
+use Rattle.history.specs.Machine.{Told, Machine}
+use Rattle.history.specs.Answering.{partitionFull, rowsPass, noneEqual, insertAnswer, deleteAnswer}
+use Rattle.history.proofs.Kept.{Kept}
+use Rattle.history.proofs.Answered.{insert-answered, delete-answered}
 use Rattle.lines.specs.Line.{lineOf}
 use Rattle.lines.specs.declared.Word.{Word}
+use Rattle.lines.specs.declared.Word.the-variants.{DrawIn, DrawOut, SpotIn, SpotOut}
 use Rattle.lines.specs.declared.Line.{Line}
 use Rattle.lines.specs.declared.Line.the-variants.{Lane, Change, Malformed}
-use Rattle.session.specs.Session.{EightPartitions, planOf, wallOf, laneNumber, changeLineNumber, stepNumber}
+use Rattle.session.specs.Session.{EightPartitions, planOf, wallOf, laneNumber, callNumber, changeLineNumber, stepNumber}
 use Rattle.session.specs.declared.Session.{Session}
 use Rattle.session.proofs.Reached.{Good, reached-good}
 use Rattle.session.proofs.Lengths.{reached-long}
-use Rattle.session.proofs.Numbers.{eight-partitions-as, wall-open, guarded-ok, among-more, laneNumbers, lane-met}
-use Rattle.session.proofs.Numbers.{changeNumbers, change-sound, Labelled, labelled}
+use Rattle.session.proofs.Numbers.{eight-partitions-as, first-met, refuse-ok, guarded-ok, among-more}
+use Rattle.session.proofs.Numbers.{laneNumbers, lane-met, Labelled, labelled}
 use Rattle.transcript.specs.Transcript.{Transcript, begun, then}
 use Rattle.transcript.specs.SessionKept.{numbersMet, isMet}
-use Rattle.transcript.proofs.Lacking.{not12, call-not12}
 use Rattle.transcript.proofs.Holding.{Holding, reached, holding}
 
--- ---- a change
+-- ---- a change: it gets the number that the machine gives, which is none of 1 to 5 and not 12
 
-module _ (s : Session) (w : Word) (t : Tuple) (S : Stores) (ts : List Told) (g : Good s) (y : EightPartitions S)
-    (l : labelCheck (t .label) ≡ 0) (h : Holding ts s S) where
-  -- never 5: a complete plan's wall is sound
-  wall-sound : s .complete ≡ true → sound (planOf s) (wallOf s S) ≡ true
-  wall-sound c = let k = h .late c in kept-current-now (k .0) (planOf s) (wallOf s S) (k .2) .all-sound
+-- checks 6 to 8, of a legal label
+tuple-is : (t : Tuple) → labelCheck (t .label) ≡ 0 → isMet (tupleNumber t) ≡ true
+unfolding tupleNumber itemCheck validCheck
+tuple-is t l =
+    let v = t .valid in
+    first-met isMet _ refl
+    (and-both _ _ (ap isMet l)
+    (and-both _ _ (refuse-ok isMet (ltb itemEnd (t .item)) 7 refl refl)
+    (and-both _ _
+    (refuse-ok isMet (ltb (v .last .0) (v .first .0) || ltb calendarEnd (v .last .0)) 8 refl refl) refl)))
 
-  -- checks 1 to 5 pass
-  wall-passes : s .complete ≡ true → storeNumber (planOf s) (wallOf s S) ≡ 0
-  unfolding firstOf
-  wall-passes c = stores-are (planOf s) (wallOf s S) ∙ rw (wall-open s S g c y, wall-sound c)
+module _ (m : Machine) (t : Tuple) (l : labelCheck (t .label) ≡ 0) where
+  insert-is : (side : Side) → isMet (insertAnswer m side t) ≡ true
+  unfolding insertAnswer
+  insert-is side =
+      first-met isMet _ refl
+      (and-both _ _ (tuple-is t l)
+      (and-both _ _ (refuse-ok isMet (partitionFull m side t) 9 refl refl)
+      (and-both _ _ (refuse-ok isMet (rowsPass m side t) 10 refl refl) refl)))
 
-  -- never 12
-  change-not12 : not12 (changeLineNumber s w t S) ≡ true
-  unfolding changeLineNumber
-  change-not12 =
-      guarded-ok not12 (s .complete) 15 _ refl refl
-      (λ c. let k = h .late c in call-not12 (k .0) (planOf s) t (wallOf s S) (k .2) (wall-passes c) w)
+  delete-is : (side : Side) → isMet (deleteAnswer m side t) ≡ true
+  unfolding deleteAnswer
+  delete-is side =
+      first-met isMet _ refl
+      (and-both _ _ (tuple-is t l) (and-both _ _ (refuse-ok isMet (noneEqual m side t) 11 refl refl) refl))
 
-  change-is : isMet (changeLineNumber s w t S) ≡ true
-  change-is =
-      let n = changeLineNumber s w t S in
-      let e = among-more changeNumbers (12 ∷ numbersMet) refl n (change-sound s w t S g y l wall-sound) in
-      rw (not-true (eqb n 12) change-not12) at e
+  call-is : (w : Word) (p : Partitioning) (S : Stores) → Kept m p S → isMet (callNumber w p t S) ≡ true
+  call-is DrawIn p S k = rw (insert-answered m p S k Outer t) (insert-is Outer)
+  call-is DrawOut p S k = rw (delete-answered m p S k Outer t) (delete-is Outer)
+  call-is SpotIn p S k = rw (insert-answered m p S k Inner t) (insert-is Inner)
+  call-is SpotOut p S k = rw (delete-answered m p S k Inner t) (delete-is Inner)
+
+change-is : (s : Session) (w : Word) (t : Tuple) (S : Stores) (ts : List Told) → labelCheck (t .label) ≡ 0
+    → Holding ts s S → isMet (changeLineNumber s w t S) ≡ true
+unfolding changeLineNumber
+change-is s w t S ts l h =
+    guarded-ok isMet (s .complete) 15 _ refl refl
+    (λ c. let k = h .late c in call-is (k .0) t l w (planOf s) (wallOf s S) (k .2))
 
 -- ---- a line, and every line
 
 line-is : (s : Session) (line : Line) (S : Stores) (ts : List Told) → Good s → EightPartitions S → Labelled line
     → Holding ts s S → isMet (stepNumber s line S) ≡ true
 line-is s (Lane m) S ts g y l h = among-more laneNumbers numbersMet refl (laneNumber s m S) (lane-met s m S g y)
-line-is s (Change w t) S ts g y l h = change-is s w t S ts g y l h
+line-is s (Change w t) S ts g y l h = change-is s w t S ts l h
 line-is s Malformed S ts g y l h = refl
 
 pub all-met : {S₀ : Stores} {ns : List ℕ} {ts : List Told} {s : Session} {S : Stores} → EightPartitions S₀

@@ -35,7 +35,9 @@ line-framed : (s : Session) (line : Line) (S S′ : Stores) (ts : List Told) (r 
     → SteppedBy s line S S′ r → Framed s line (r .number) S S′
 line-framed s (Lane m) S S′ ts r h b = tt
 line-framed s (Change w t) S S′ ts r h b =
-    λ z. change-frame s w t S S′ ts h (b .accepted z) (change-complete s w t S S′ ts h (sym (b .number) ∙ z))
+    λ z.
+    let k = h .late (change-complete s w t S (sym (b .number) ∙ z)) in
+    change-frame s w t S S′ (k .0) (k .2) (b .accepted z)
 line-framed s Malformed S S′ ts r h b = tt
 
 all-framed : {S₀ : Stores} {ns : List ℕ} {ts : List Told} {s : Session} {S : Stores} (x : Transcript S₀ ns ts s S)
