@@ -1,0 +1,42 @@
+-- The length of a refusal, of a line's answer and of the rest's refusal: at most 50 bytes.
+-- Assumes nothing.
+use mathlib.Core.Bool.{Bool, true, false}
+use mathlib.Core.List.{List, [], _∷_, _++_}
+use Prim.Native.Nat.{ℕ, _≤_}
+use native.Mathlib.Omega.{arith}
+use lib.Dec.{eqb}
+use lib.ListN.{length, length-append}
+use Rattle.lists.specs.Choice.{pick}
+use Rattle.lines.specs.Fields.{comma, lineEnd, digitsOf}
+use Rattle.lines.specs.Line.{lineNumber}
+use Rattle.lines.specs.declared.Line.the-variants.{Malformed}
+use Rattle.text_buffer.specs.Buffer.{ended}
+use Rattle.text_buffer.proofs.Digits.{digits-twenty}
+use Rattle.stream.specs.Refusals.{refusedBytes, refusalLine, answerText, nextLine, unfinishedText}
+use Rattle.stream.specs.Taking.{refusalRoom}
+
+pub refusal-length : (l n : ℕ) → length (refusalLine l n) ≤ refusalRoom
+unfolding refusalLine
+refusal-length l n =
+    omega (
+      arith,
+      length-append (ended refusedBytes comma) (ended (digitsOf l) comma ++ ended (digitsOf n) lineEnd),
+      length-append (ended (digitsOf l) comma) (ended (digitsOf n) lineEnd),
+      length-append (digitsOf l) (comma ∷ []),
+      length-append (digitsOf n) (lineEnd ∷ []),
+      digits-twenty l,
+      digits-twenty n,
+    )
+
+pub answer-length : (l n : ℕ) → length (answerText l n) ≤ refusalRoom
+unfolding answerText
+answer-length l n = go (eqb n 0)
+  where
+    go : (b : Bool) → length (pick b [] (refusalLine l n)) ≤ refusalRoom
+    go true = omega arith
+    go false = refusal-length l n
+
+pub unfinished-length : (n : ℕ) (u : List ℕ) → length (unfinishedText n u) ≤ refusalRoom
+unfolding unfinishedText
+unfinished-length n [] = omega arith
+unfinished-length n (b ∷ u) = refusal-length (nextLine n) (lineNumber Malformed)
