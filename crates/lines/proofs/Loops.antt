@@ -1,6 +1,7 @@
 -- The loops of this crate.
 -- In order, each with its laws: `Passed`, no byte before place i is the one looked for, for `place_of`; `Matched`,
--- the bytes before place i are the same, for `same`; `Digits`, i digits are read and their value is n, for `read_number`.
+-- the bytes before place i are the same, for `same`; `Digits`, i digits are read and their value is n, for
+-- `read_number`.
 -- Assumes nothing.
 use mathlib.Core.Bool.{true, false, _&&_, false≢true}
 use mathlib.Core.List.{List}
@@ -34,7 +35,8 @@ module _ (byte : ℕ) (bs : List ℕ) where
   passed-none = record { within = omega arith; place = omega arith }
 
   place-next : (i : ℕ) → i < length bs
-      → placeOf (isByte byte) (drop i bs) ≡ pick (isByte byte (getD bs i 0)) 0 (suc (placeOf (isByte byte) (drop (i + 1) bs)))
+      → placeOf (isByte byte) (drop i bs)
+      ≡ pick (isByte byte (getD bs i 0)) 0 (suc (placeOf (isByte byte) (drop (i + 1) bs)))
   place-next i h = rw (add-one, drop-cons bs i 0 h)
 
   -- the byte at place i, another there, and the end

@@ -5,7 +5,7 @@ ghost use lib.ListN.{length};
 ghost use Rattle.label.specs.Label.{lettersOf};
 ghost use Rattle.interval.specs.Tuple.{rowWidth};
 ghost use Rattle.part.specs.Part.{roomOf, counted};
-ghost use Rattle.lines.specs.Fields.{comma, digitsOf};
+ghost use Rattle.lines.specs.Fields.{comma};
 ghost use Rattle.text_buffer.specs.Buffer.{ended, Put};
 ghost use Rattle.report.specs.Text.{rowLine, partitionText, partitionsText, textOf};
 ghost use Rattle.report.specs.Steps.{SoundStore};

@@ -56,7 +56,8 @@ cut-lines (b ∷ xs) ys = go (isEnd b) (any isEnd xs) refl refl (cut-lines xs ys
         → finishedLines (xs ++ ys) ≡ finishedLines xs ++ finishedLines (unfinished xs ++ ys)
         → finishedLines (b ∷ (xs ++ ys)) ≡ finishedLines (b ∷ xs) ++ finishedLines (unfinished (b ∷ xs) ++ ys)
     go true q e f h = rw e (ap (λ (ls : List (List ℕ)). [] ∷ ls) h)
-    go false true e f h = rw (e, f) (ap (inFront (b ∷ [])) h ∙ in-front (b ∷ []) (finishedLines xs) _ (some-finished xs f))
+    go false true e f h =
+        rw (e, f) (ap (inFront (b ∷ [])) h ∙ in-front (b ∷ []) (finishedLines xs) _ (some-finished xs f))
     go false false e f h = rw (e, f, none-finished xs f, e)
 
 pub cut-rest : (xs ys : List ℕ) → unfinished (xs ++ ys) ≡ unfinished (unfinished xs ++ ys)
@@ -141,7 +142,8 @@ kept-front u l =
     sym (kept-line (take keptMost u ++ l)) ∙ ap lineOf (take-front keptMost u l) ∙ kept-line (u ++ l)
 
 -- lines after what is kept have the values of those after all of it
-pub kept-first : (u : List ℕ) (ls : List (List ℕ)) → map lineOf (inFront (take keptMost u) ls) ≡ map lineOf (inFront u ls)
+pub kept-first : (u : List ℕ) (ls : List (List ℕ))
+    → map lineOf (inFront (take keptMost u) ls) ≡ map lineOf (inFront u ls)
 kept-first u [] = refl
 kept-first u (l ∷ ls) = ap (λ (k : Line). k ∷ map lineOf ls) (kept-front u l)
 

@@ -1,6 +1,6 @@
 -- The end of the input: a report after a refusal, in one buffer; and what `finish` answers.
 -- Assumes nothing.
-use mathlib.Core.Bool.{Bool, true, false, true≢false, false≢true}
+use mathlib.Core.Bool.{true, false, true≢false, false≢true}
 use mathlib.Core.List.{List, [], _∷_, _++_, append-nil}
 use mathlib.Core.Logic.{⊎-elim}
 use mathlib.Core.Path.{_≡_, refl, sym, _∙_, ap, ap₂, subst}
@@ -9,11 +9,11 @@ use native.Mathlib.Nat.{zero-add}
 use native.Mathlib.Omega.{arith}
 use lib.Dec.{ltb, eqb}
 use lib.ListN.{length, take, drop, length-drop, length-take, length-append, drop-of-length-le}
-use lib.Seq.{take-all, take-at, drop-at, length-take-le, take-append-seam, drop-append-seam}
+use lib.Seq.{take-all, drop-at, length-take-le, take-append-seam, drop-append-seam}
 use borrow.Author.Tests.{lt-ltb, le-ltb, eqb-true, eqb-false}
-use borrow.Rule.Slice.PartMut.{midOf, postOf, putMid, put-same}
-use Rattle.lists.specs.Choice.{pick, refuseIf, firstOf}
-use Rattle.lists.proofs.Choice.{bool-cases, refuse-met, refuse-passed, pick-true, pick-false}
+use borrow.Rule.Slice.PartMut.{midOf, putMid, put-same}
+use Rattle.lists.specs.Choice.{firstOf}
+use Rattle.lists.proofs.Choice.{bool-cases}
 use Rattle.plan.specs.declared.Partitioning.{Partitioning}
 use Rattle.text_buffer.specs.Buffer.{Put}
 use Rattle.report.specs.Text.{countLine}
@@ -37,7 +37,8 @@ module _ (s : Session) (u : ℕ) (rest rows out rows₁ out₁ : List ℕ) (p : 
   put-is =
       ap (λ (l : List ℕ). take (length rest) out ++ l)
       (ap (λ (l : List ℕ). out₁ ++ l)
-      (drop-of-length-le (drop (length rest) out) {i = length out - length rest} (omega (arith, length-drop (length rest) out)))
+      (drop-of-length-le (drop (length rest) out) {i = length out - length rest}
+      (omega (arith, length-drop (length rest) out)))
       ∙ append-nil out₁)
 
   report-is : (out′ : List ℕ) → drop (length rest) out′ ≡ out₁
@@ -91,7 +92,8 @@ module _ (s : Session) (u : ℕ) (rest rows out rows₁ out₁ : List ℕ) (p : 
   ended-written q out′ k put =
       let is : out′ ≡ rest ++ out₁ =
       put .holds
-      ∙ ap (λ (n : ℕ). rest ++ drop n (putMid (length rest) (length out - length rest) out out₁)) (zero-add (length rest))
+      ∙ ap (λ (n : ℕ). rest ++ drop n (putMid (length rest) (length out - length rest) out out₁))
+      (zero-add (length rest))
       ∙ ap (λ (l : List ℕ). rest ++ drop (length rest) l) put-is
       ∙ ap (λ (l : List ℕ). rest ++ l)
       (drop-at (take (length rest) out) out₁ (length rest) (length-take-le (length rest) out room)) in
@@ -177,7 +179,8 @@ module _ (s : Reading) (rows out : List ℕ) (room : finishRoom ≤ length out) 
           store = refl;
           text =
               q .holds
-              ∙ ap (λ (n : ℕ). (restText s ++ countLine 0) ++ drop n out) (zero-add (length (restText s ++ countLine 0)));
+              ∙ ap (λ (n : ℕ). (restText s ++ countLine 0) ++ drop n out)
+              (zero-add (length (restText s ++ countLine 0)));
           bytes = q .place ∙ zero-add (length (restText s ++ countLine 0));
         };
       }

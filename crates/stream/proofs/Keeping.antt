@@ -2,7 +2,7 @@
 -- `keep` writes; the reading after it.
 -- Assumes nothing.
 use mathlib.Core.List.{List, _++_, append-assoc}
-use mathlib.Core.Path.{_≡_, refl, sym, _∙_, ap, ap₂}
+use mathlib.Core.Path.{_≡_, sym, _∙_, ap, ap₂}
 use Prim.Native.Nat.{ℕ, _+_, _-_, _≤_, min}
 use native.Mathlib.Omega.{arith}
 use lib.ListN.{length, take, drop, length-append, length-drop, length-take}
@@ -60,5 +60,7 @@ keep-fits s bytes f =
     let most = length-take keptMost (keptBytes s ++ bytes) in
     record {
       most = omega (arith, most);
-      long = length-append k (drop (length k) (s .line)) ∙ omega (arith, length-drop (length k) (s .line), most, f .long);
+      long =
+          length-append k (drop (length k) (s .line))
+          ∙ omega (arith, length-drop (length k) (s .line), most, f .long);
     }

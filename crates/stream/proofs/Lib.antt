@@ -7,3 +7,4 @@ pub mod Parts
 pub mod Loop
 pub mod Takes
 pub mod Finishes
+pub mod Cases

@@ -21,7 +21,7 @@ use Rattle.text_buffer.proofs.Writing.{written-more, put-none}
 use Rattle.stream.specs.Input.{isEnd, inFront, finishedLines, unfinished, valuesAfter, restAfter}
 use Rattle.stream.specs.Refusals.{answerText, nextLine, lineCount, refusals}
 use Rattle.stream.specs.Taking.{Steps, none, then, keptMost, blankLine, keptBytes, onto, refusalRoom, keptAfter}
-use Rattle.stream.specs.Taking.{withBytes, LineEnded, PartTaken}
+use Rattle.stream.specs.Taking.{betweenLines, withBytes, LineEnded, PartTaken}
 use Rattle.stream.specs.declared.Reading.{Reading}
 use Rattle.stream.specs.declared.Taken.{Taken}
 use Rattle.stream.proofs.Cuts.{none-finished, none-rest, front-lines, front-rest, take-front, kept-first}
@@ -84,7 +84,8 @@ module _ (s : Reading) (u ys : List ℕ) (e : any isEnd u ≡ false) where
       ap (λ (l : List ℕ). take keptMost (restAfter l ys)) (kept-is s u)
       ∙ go (any isEnd ys)
       ∙ sym
-      (ap₂ (λ (p : Bool) (l : List ℕ). take keptMost (pick p l (keptBytes s ++ (u ++ ys)))) any-rest (front-rest u ys e))
+      (ap₂ (λ (p : Bool) (l : List ℕ). take keptMost (pick p l (keptBytes s ++ (u ++ ys)))) any-rest
+      (front-rest u ys e))
     where
       go : (p : Bool)
           → take keptMost (pick p (unfinished ys) (take keptMost (keptBytes s ++ u) ++ ys))
@@ -156,7 +157,7 @@ module _ (s : Reading) (b : ℕ) (ys : List ℕ) (e : isEnd b ≡ true) where
   part-line at out S out₁ S₁ t out′ S′ r room l p =
       let k = l .stepped .number in
       let n = nextLine (s .lines) in
-      let v : Reading = record { session = l .stepped .session; lines = n; kept = 0; line = blankLine } in
+      let v = betweenLines (l .stepped .session) n in
       let q : PartAt v ys (t .bytes) out₁ S₁ out′ S′ r =
       subst (λ (u : Reading). PartAt u ys (t .bytes) out₁ S₁ out′ S′ r) (l .reading) p in
       let text = answerText n k in

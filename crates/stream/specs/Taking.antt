@@ -1,7 +1,7 @@
 -- A reading of the input, and what `start` and `take` answer and leave, for any reading, any bytes and any lent words:
 -- by the steps that the lines make (`session::step`'s own promise), since the stores after a line are only related to
 -- those before it.
-use mathlib.Core.Bool.{Bool, _||_}
+use mathlib.Core.Bool.{_||_}
 use mathlib.Core.List.{List, [], _∷_, _++_}
 use mathlib.Core.Path.{_≡_}
 use Prim.Native.Nat.{ℕ, _+_, _*_}
@@ -38,9 +38,13 @@ keptMost = lineLength + 1
 abbrev pub blankLine : List ℕ
 blankLine = replicate keptMost 0
 
--- before the first byte
+-- after so many finished lines, and before the next one's first byte
+abbrev pub betweenLines : Session → ℕ → Reading
+betweenLines s n = record { session = s; lines = n; kept = 0; line = blankLine }
+
+-- before the first byte of all
 abbrev pub atStart : Reading
-atStart = record { session = fresh; lines = 0; kept = 0; line = blankLine }
+atStart = betweenLines fresh 0
 
 abbrev pub keptBytes : Reading → List ℕ
 keptBytes s = take (s .kept) (s .line)
@@ -96,6 +100,5 @@ pub record LineEnded (s : Reading) (at : ℕ) (out : List ℕ) (S : Stores) (out
   pub stepped : Stepped
   pub step : SteppedBy (s .session) (lineOf (keptBytes s)) S S′ stepped
   pub number : r .number ≡ 0
-  pub reading : r .reading
-      ≡ record { session = stepped .session; lines = nextLine (s .lines); kept = 0; line = blankLine }
+  pub reading : r .reading ≡ betweenLines (stepped .session) (nextLine (s .lines))
   pub text : Put at (answerText (nextLine (s .lines)) (stepped .number)) out out′ (r .bytes)

@@ -13,7 +13,8 @@ ghost use Rattle.checks.specs.Stores.{stores};
 ghost use Rattle.text_buffer.specs.Buffer.{Put};
 ghost use Rattle.report.specs.Text.{countLine};
 ghost use Rattle.stream.specs.Refusals.{refusalLine, answerText, nextLine};
-ghost use Rattle.stream.specs.Taking.{keptMost, refusalRoom, atStart, withBytes, LineEnded, PartTaken, TakenBy};
+ghost use Rattle.stream.specs.Taking.{keptMost, refusalRoom, betweenLines, atStart, withBytes, LineEnded};
+ghost use Rattle.stream.specs.Taking.{PartTaken, TakenBy};
 ghost use Rattle.stream.specs.Finishing.{restText, ReportEnded, FinishedBy};
 use lines::LINE_END;
 use lines::LINE_LENGTH;
@@ -57,17 +58,23 @@ pub struct Finished {
     pub bytes: usize,
 }
 
+// After `lines` finished lines, with no byte of the next one.
+fn between_lines(session: Session, lines: u64) -> Reading
+    ensures { λ r. ⌜ r ≡ betweenLines session lines ⌝ }
+{
+    Reading {
+        session,
+        lines,
+        kept: 0,
+        line: [0u8; KEPT_BYTES],
+    }
+}
+
 // Before the first byte.
 pub fn start() -> Reading
     ensures { λ r. ⌜ r ≡ atStart ⌝ }
 {
-    let session = session::start();
-    Reading {
-        session,
-        lines: 0,
-        kept: 0,
-        line: [0u8; KEPT_BYTES],
-    }
+    between_lines(session::start(), 0)
 }
 
 // The number of the line after `lines` lines. The last number of all stays: no input gets there.
@@ -153,12 +160,7 @@ fn end_line(
     let session = stepped.session;
     let lines = next_line(s.lines);
     let bytes = put_answer(out, at, lines, stepped.number);
-    let reading = Reading {
-        session,
-        lines,
-        kept: 0,
-        line: [0u8; KEPT_BYTES],
-    };
+    let reading = between_lines(session, lines);
     Taken {
         number: 0,
         reading,

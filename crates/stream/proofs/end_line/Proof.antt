@@ -1,14 +1,14 @@
 -- `stream::end_line` meets its contract.
 -- Assumes nothing.
 use mathlib.Core.List.{List}
-use mathlib.Core.Path.{_≡_, refl, sym, ap, subst}
+use mathlib.Core.Path.{_≡_, refl, sym, _∙_, ap, subst}
 use Prim.Native.Nat.{ℕ}
 use native.Mathlib.Omega.{arith}
 use lib.ListN.{length-map}
 use lib.Seq.{length-take-le}
 use Rattle.text_buffer.specs.Buffer.{Put}
 use Rattle.stream.specs.Refusals.{answerText}
-use Rattle.stream.specs.Taking.{blankLine}
+use Rattle.stream.specs.Taking.{betweenLines}
 use Rattle.stream.proofs.Keeping.{Fits}
 use borrow.Author.Needs.{needs}
 use Rattle.stream.proofs.end_line.Statement.{statement}
@@ -41,6 +41,9 @@ next-line-requires c κs = search needs
 put-answer-requires : tie.Need-put-answer-requires
 put-answer-requires c κs = search needs
 
+between-lines-requires : tie.Need-between-lines-requires
+between-lines-requires c κs = search needs
+
 same-length : tie.Need-same-length
 same-length c = search needs
 
@@ -55,7 +58,7 @@ same-length-4 c = search needs
 
 returns : tie.Need-returns
 returns c =
-    let p = c .before .before in
+    let p = c .before .before .before in
     let n = p .before .before in
     let k = n .before .before .before .before .before .before .before .before in
     record {
@@ -63,8 +66,8 @@ returns c =
       step = k .step .ensures;
       number = refl;
       reading =
-          ap (λ (i : ℕ). record { session = k .step .result .session; lines = i; kept = 0; line = blankLine })
-          (n .next-line .ensures);
+          c .between-lines .ensures
+          ∙ ap (betweenLines (k .step .result .session)) (n .next-line .ensures);
       text = as-next _ _ _ _ _ _ _ (n .next-line .ensures) (p .put-answer .ensures);
     }
 
@@ -77,6 +80,7 @@ end-line-spec =
     step-requires
     next-line-requires
     put-answer-requires
+    between-lines-requires
     same-length
     same-length-2
     same-length-3

@@ -20,7 +20,9 @@ rest-is : (c : tie.After-put-rest)
 rest-is c = rest-taken _ _ _ _ (c .put-rest .ensures)
 
 rest-size : (c : tie.After-put-rest) → length (take (c .put-rest .result) (c .put-rest .last .1 .0)) ≤ 50
-rest-size c = omega (arith, ap length (rest-is c), unfinished-length (c .before .before .before .before .before .args .s .lines) (keptBytes (c .before .before .before .before .before .args .s)))
+rest-size c =
+    let s = c .before .before .before .before .before .args .s in
+    omega (arith, ap length (rest-is c), unfinished-length (s .lines) (keptBytes s))
 
 within : (c : tie.After-put-rest) → c .put-rest .result ≤ length (c .put-rest .last .1 .0)
 within c = rest-within _ _ _ _ (c .put-rest .ensures)

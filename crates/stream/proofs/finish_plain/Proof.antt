@@ -20,7 +20,10 @@ both rest out now out′ at r room p q = record {
       q .holds
       ∙ ap₂ (λ (i : ℕ) (o : List ℕ). written i (countLine 0) o) (p .place) (p .holds)
       ∙ written-more 0 rest out room (countLine 0);
-  place = q .place ∙ ap (λ (i : ℕ). i + length (countLine 0)) (p .place) ∙ omega (arith, length-append rest (countLine 0));
+  place =
+      q .place
+      ∙ ap (λ (i : ℕ). i + length (countLine 0)) (p .place)
+      ∙ omega (arith, length-append rest (countLine 0));
 }
 
 put-bytes-requires : tie.Need-put-bytes-requires

@@ -1,6 +1,5 @@
 -- `stream::take` meets its contract: the checks, then the lines.
 -- Assumes nothing.
-use native.Mathlib.Omega.{arith}
 use Rattle.stream.proofs.Takes.{take-kept, take-short, take-whole, taken-refused, taken-whole}
 use borrow.Author.Needs.{needs}
 use Rattle.stream.proofs.take.Statement.{statement}

@@ -7,7 +7,8 @@ use lib.ListN.{length, take, drop, length-drop, length-map}
 use borrow.Author.Needs.{needs}
 use Rattle.checks.specs.Stores.{stores}
 use Rattle.stream.proofs.Keeping.{Fits}
-use Rattle.stream.proofs.Loop.{lent-rest, place-within, Doing, doing-start, doing-room, line-fits, doing-step, doing-end}
+use Rattle.stream.proofs.Loop.{lent-rest, place-within, Doing, doing-start, doing-room, line-fits}
+use Rattle.stream.proofs.Loop.{doing-step, doing-end}
 use Rattle.stream.proofs.take_lines.Statement.{statement}
 use Rattle.stream.proofs.take_lines.Tie as tie
 
@@ -24,6 +25,10 @@ abbrev μ-loop : tie.MeasureT-loop
 
 fits : (s : tie.Start Inv-loop μ-loop) → Fits (s .args .s)
 fits s = record { most = s .pre .0; long = simp length-map at (s .good .0 .1 .1 .1 .1 .1 .0 .1 .0 .1) }
+
+-- the loop's test before a line
+abbrev tested : tie.After-end-line Inv-loop μ-loop → tie.In-loop Inv-loop μ-loop
+tested e = e .before .before .before .before .before .before .before
 
 place-of-requires : tie.Need-place-of-requires Inv-loop μ-loop
 place-of-requires c κs = search needs
@@ -56,11 +61,13 @@ end-line-requires c κs =
 
 add-from : tie.Need-add-from Inv-loop μ-loop
 add-from c =
-    let l = c .before .before .before .before .before .before .before .before .before .before .before .before .before .before .before .before in
+    let l = tested (c .before .before .before .before .before .before .before .before .before) in
     omega (arith, l .loop-test .taken, l .before .before .before .before .before .before .before .before .good .1 .0 .0)
 
 sub-place-of : tie.Need-sub-place-of Inv-loop μ-loop
-sub-place-of c = omega (arith, c .before .before .before .before .before .before .before .before .before .before .before .before .before .before .before .before .loop-test .taken)
+sub-place-of c =
+    let l = tested (c .before .before .before .before .before .before .before .before .before) in
+    omega (arith, l .loop-test .taken)
 
 part-place-of-start : tie.Need-part-place-of-start Inv-loop μ-loop
 part-place-of-start c = search needs
@@ -73,9 +80,7 @@ place-of-requires-2 c κs = search needs
 
 add-end : tie.Need-add-end Inv-loop μ-loop
 add-end c =
-    let l =
-    c .before .before .before .before .before .before .before .before .before .before .before .before .before .before
-    .before .before .before .before in
+    let l = tested (c .before .before .before .before .before .before .before .before .before .before .before) in
     let s = l .before .before .before .before .before .before .before .before in
     let part = s .args .part .now in
     let end = l .before .loop .end in
@@ -92,7 +97,7 @@ add-end c =
 
 loop-less : tie.Need-loop-less Inv-loop μ-loop
 loop-less c =
-    let l = c .before .before .before .before .before .before .before .before .before .before .before .before .before .before .before .before .before .before in
+    let l = tested (c .before .before .before .before .before .before .before .before .before .before .before) in
     omega (arith, l .loop-test .taken)
 
 loop-again : tie.Need-loop-again Inv-loop μ-loop
