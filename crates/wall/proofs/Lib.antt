@@ -1,2 +1,2 @@
--- The laws of this crate: how many digits a number has.
-pub mod Digits
+-- The laws of this crate: the line of a failure.
+pub mod Failures

@@ -1,16 +1,53 @@
-// The program `wall` (document 01, "Lines and the program"): lines from standard input, `refused,LINE,NUMBER` for each
-// line that is refused, when it is met, and at the end the rows. Thin: what a line does is `session`'s, what the rows
-// look like is `report`'s. Proved here: it is safe and ends. No contract can say what is read or written.
-mod input;
-mod output;
+// The program `wall` (document 01, "Lines and the program"): it reads standard input in parts, as they come, and writes
+// what `stream` answers for each: the refusals of the lines that the part finishes, and at the end the rows. What is
+// printed for what was read is a theorem of crate `program_text`; here only the system calls are made. Proved here: it
+// is safe and ends. No contract can say what is read or written.
+mod channel;
 
+use channel::Moved;
 use session::ROW_WORDS;
 use session::TUPLE_WORDS;
+use stream::REFUSAL_BYTES;
 
+// The bytes of a part, as `io::buffer` has them, and of the text: a refusal for each of them.
+const PART_BYTES: usize = 4096;
+
+const TEXT_BYTES: usize = REFUSAL_BYTES * PART_BYTES;
+
+// A proved loop has to end, and nothing says that the input does, so the parts are counted down from a number that no
+// run uses up.
 fn main() {
     let mut outer = [0u64; TUPLE_WORDS];
     let mut inner = [0u64; TUPLE_WORDS];
     let mut rows = [0u64; ROW_WORDS];
-    let read = input::read_all(&mut outer, &mut inner, &mut rows);
-    output::finish(read, &mut rows);
+    let mut part = io::buffer();
+    let mut text = [0u8; TEXT_BYTES];
+    let mut reading = stream::start();
+    let mut turns = u64::MAX;
+    while 0 < turns {
+        let moved = channel::read_part(&mut part);
+        let n = match moved {
+            Moved::Bytes(n) => n,
+            Moved::Nothing => break,
+            Moved::Failed(_) => return,
+        };
+        let taken = stream::take(
+            reading,
+            &part[..n],
+            &mut outer,
+            &mut inner,
+            &mut rows,
+            &mut text,
+        );
+        let bytes = taken.bytes;
+        if !channel::print(&text[..bytes]) {
+            return;
+        }
+        let next = taken.reading;
+        reading = next;
+        turns -= 1;
+    }
+    let end = stream::finish(reading, &mut rows, &mut text);
+    let bytes = end.bytes;
+    channel::print(&text[..bytes]);
 }
