@@ -2,7 +2,7 @@
 -- Assumes nothing.
 use mathlib.Core.Bool.{Bool, true, false}
 use mathlib.Core.List.{List, [], _∷_, _++_}
-use Prim.Native.Nat.{ℕ, _≤_}
+use Prim.Native.Nat.{ℕ, _+_, _≤_}
 use native.Mathlib.Omega.{arith}
 use lib.Dec.{eqb}
 use lib.ListN.{length, length-append}
@@ -15,7 +15,7 @@ use Rattle.text_buffer.proofs.Digits.{digits-twenty}
 use Rattle.stream.specs.Refusals.{refusedBytes, refusalLine, answerText, nextLine, unfinishedText}
 use Rattle.stream.specs.Taking.{refusalRoom}
 
-pub refusal-length : (l n : ℕ) → length (refusalLine l n) ≤ refusalRoom
+refusal-length : (l n : ℕ) → length (refusalLine l n) ≤ refusalRoom
 unfolding refusalLine
 refusal-length l n =
     omega (
@@ -27,6 +27,10 @@ refusal-length l n =
       digits-twenty l,
       digits-twenty n,
     )
+
+-- so it has room where 50 bytes are left, whatever it says
+pub refusal-fits : (at l n room : ℕ) → at + refusalRoom ≤ room → at + length (refusalLine l n) ≤ room
+refusal-fits at l n room h = omega (arith, refusal-length l n)
 
 pub answer-length : (l n : ℕ) → length (answerText l n) ≤ refusalRoom
 unfolding answerText

@@ -12,7 +12,7 @@ use borrow.Author.Tests.{eq-eqb, ne-eqb}
 use Rattle.lists.proofs.Choice.{pick-true, pick-false}
 use Rattle.text_buffer.specs.Buffer.{Put}
 use Rattle.stream.specs.Refusals.{refusalLine, answerText}
-use Rattle.stream.proofs.Refusals.{refusal-length}
+use Rattle.stream.proofs.Refusals.{refusal-fits}
 use borrow.Author.Needs.{needs}
 use Rattle.stream.proofs.put_answer.Statement.{statement}
 use Rattle.stream.proofs.put_answer.Tie as tie
@@ -40,8 +40,7 @@ returns c = none _ _ _ _ (c .if1 .taken)
 
 put-refusal-requires : tie.Need-put-refusal-requires
 put-refusal-requires c κs =
-    let a = c .before .before .before .args in
-    omega (arith, refusal-length (a .line) (a .number))
+    refusal-fits _ _ _ _ (c .before .before .before .pre)
 
 same-length : tie.Need-same-length
 same-length c = search needs

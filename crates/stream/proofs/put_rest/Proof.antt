@@ -13,7 +13,7 @@ use Rattle.stream.specs.Refusals.{refusalLine, nextLine, unfinishedText}
 use Rattle.stream.specs.Taking.{keptMost, keptBytes}
 use Rattle.stream.specs.Finishing.{restText}
 use Rattle.stream.specs.declared.Reading.{Reading}
-use Rattle.stream.proofs.Refusals.{refusal-length}
+use Rattle.stream.proofs.Refusals.{refusal-fits}
 use borrow.Author.Needs.{needs}
 use Rattle.stream.proofs.put_rest.Statement.{statement}
 use Rattle.stream.proofs.put_rest.Tie as tie
@@ -51,7 +51,7 @@ next-line-requires : tie.Need-next-line-requires
 next-line-requires c κs = search needs
 
 put-refusal-requires : tie.Need-put-refusal-requires
-put-refusal-requires c κs = omega (arith, refusal-length (c .before .next-line .result) 15)
+put-refusal-requires c κs = refusal-fits 0 _ _ _ (c .before .before .before .before .before .pre)
 
 same-length : tie.Need-same-length
 same-length c = search needs

@@ -124,7 +124,7 @@ part-keep-end-2 : tie.Need-part-keep-end-2 Inv-loop μ-loop
 part-keep-end-2 c = search needs
 
 keep-requires-2 : tie.Need-keep-requires-2 Inv-loop μ-loop
-keep-requires-2 c κs = c .before .before .loop .inv .0 .fits .most
+keep-requires-2 c κs = search needs
 
 same-length : tie.Need-same-length Inv-loop μ-loop
 same-length c = search needs
