@@ -115,7 +115,7 @@ loop-again c =
     )
 
 sub-keep-2 : tie.Need-sub-keep-2 Inv-loop μ-loop
-sub-keep-2 c = c .before .loop .inv .0 .within
+sub-keep-2 c = omega (arith, c .before .loop .inv .0 .within)
 
 part-keep-start-2 : tie.Need-part-keep-start-2 Inv-loop μ-loop
 part-keep-start-2 c = search needs
