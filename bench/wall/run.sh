@@ -1,11 +1,17 @@
 #!/bin/bash
-# Times the program `wall` on a session of 100,000 lines on full stores, beside a C program at -O3 that reads the same lines
-# with stdio and joins by nested loops over the same capacities (wall.c): `anew`, every drawing with every spot at each
-# change, and `kept`, the changed tuple with the other side. The target: at most 1.5 times as long as nested loops.
-# All three must print the same refusals and count of rows. Works from any folder. Needs rt, python3 and a C compiler
+# Times the program `wall` on a session of 100,000 lines on full stores, beside a C program at -O3 that reads the same
+# lines with stdio and joins by nested loops over the same capacities (wall.c): `anew`, every drawing with every spot at
+# each change, and `kept`, the changed tuple with the other side. The target: at most 1.5 times as long as nested loops.
+# All must print the same refusals and count of rows. Works from any folder. Needs rt, python3 and a C compiler
 # (CC, else cc).
+#
+#     OLD=path bench/wall/run.sh
+#
+# times another build of `wall` too, as a further row: the two programs take turns, nine each, so that what else the
+# machine does meets both alike, and the best turn of each counts.
 set -eu
 
+old=${OLD:+$(realpath "$OLD")}
 here=$(cd "$(dirname "${BASH_SOURCE[0]}")" && pwd -P)
 root=$(cd "$here/../.." && pwd -P)
 room=$(mktemp -d)
@@ -36,26 +42,33 @@ while len(lines) < 100000:
 print("\n".join(lines[:100000]))
 LINES
 
-python3 - "$room" target/bin/wall <<'TIME'
+python3 - "$room" target/bin/wall ${old:+"$old"} <<'TIME'
 import resource, subprocess, sys
-room, wall = sys.argv[1:]
-def run(command):
-    best, out = None, None
-    for _ in range(5):
-        before = resource.getrusage(resource.RUSAGE_CHILDREN)
-        with open(room + "/lines", "rb") as lines:
-            out = subprocess.run(command, stdin=lines, stdout=subprocess.PIPE, check=True).stdout
-        after = resource.getrusage(resource.RUSAGE_CHILDREN)
-        took = after.ru_utime + after.ru_stime - before.ru_utime - before.ru_stime
-        best = took if best is None else min(best, took)
-    return best, [l for l in out.split(b"\n") if l.startswith((b"refused", b"rows"))]
-ours, printed = run([wall])
-anew, a = run([room + "/c", "anew"])
-kept, k = run([room + "/c", "kept"])
-if printed != a or printed != k:
+room, *walls = sys.argv[1:]
+def turn(command):
+    before = resource.getrusage(resource.RUSAGE_CHILDREN)
+    with open(room + "/lines", "rb") as lines:
+        out = subprocess.run(command, stdin=lines, stdout=subprocess.PIPE, check=True).stdout
+    after = resource.getrusage(resource.RUSAGE_CHILDREN)
+    took = after.ru_utime + after.ru_stime - before.ru_utime - before.ru_stime
+    return took, [l for l in out.split(b"\n") if l.startswith((b"refused", b"rows"))]
+def run(commands, turns):
+    """The best time of each command and what it prints; with several commands one turn of each after the other."""
+    taken = [[turn(c) for c in commands] for _ in range(turns)]
+    return [min(row[k][0] for row in taken) for k in range(len(commands))], [printed for _, printed in taken[-1]]
+turns = 9 if len(walls) > 1 else 5
+# the old program's turn comes first
+times, printed = (answers[::-1] for answers in run([[wall] for wall in walls[::-1]], turns))
+(anew,), a = run([[room + "/c", "anew"]], 5)
+(kept,), k = run([[room + "/c", "kept"]], 5)
+if any(p != printed[0] for p in printed + a + k):
     sys.exit("the programs print different refusals or counts")
-print(f"100,000 lines, {printed[-1].decode()}, {len(printed) - 1} refused; best of five, seconds of processor time")
+print(f"100,000 lines, {printed[0][-1].decode()}, {len(printed[0]) - 1} refused; best of {turns} turns, of the C "
+      "programs of 5, seconds of processor time")
 print("| wall | C, nested loops anew | ratio | C, changed tuple only | ratio |")
 print("|---|---|---|---|---|")
-print(f"| {ours:.3f} | {anew:.3f} | {ours / anew:.2f} | {kept:.3f} | {ours / kept:.2f} |")
+for name, ours in zip(("", " (old)"), times):
+    print(f"| {ours:.3f}{name} | {anew:.3f} | {ours / anew:.2f} | {kept:.3f} | {ours / kept:.2f} |")
+if len(times) > 1:
+    print(f"wall / old: {times[0] / times[1]:.2f}")
 TIME
