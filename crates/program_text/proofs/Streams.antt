@@ -8,7 +8,7 @@ use mathlib.Core.Path.{_≡_, refl, sym, _∙_, ap, ap₂, subst}
 use Prim.Native.Nat.{ℕ, _+_, _-_, _*_, _≤_}
 use native.Mathlib.Omega.{arith}
 use lib.Dec.{ltb}
-use lib.ListN.{length, take, drop, length-take}
+use lib.ListN.{length, take, drop, length-take, length-drop}
 use lib.Seq.{take-append-seam, take-add}
 use borrow.Author.Tests.{le-ltb, lt-ltb}
 use Rattle.lists.specs.Choice.{pick, refuseIf, firstOf}
@@ -17,13 +17,12 @@ use Rattle.checks.specs.Stores.{Stores}
 use Rattle.history.proofs.Kept.{Kept}
 use Rattle.lines.specs.declared.Line.{Line}
 use Rattle.report.specs.Text.{countLine}
-use Rattle.report.specs.Text.{textOf as storeText}
-use Rattle.report.specs.Report.{reportNumber}
-use Rattle.session.specs.Session.{EightPartitions, fresh, planOf, usedRows, wallOf}
+use Rattle.report.specs.Report.{textRoom, reportNumber}
+use Rattle.session.specs.Session.{wallRowsMost, EightPartitions, fresh, planOf, usedRows, wallOf}
 use Rattle.session.specs.declared.Session.{Session}
 use Rattle.transcript.specs.Rows.{printedRows}
 use Rattle.transcript.proofs.Reported.{report-accepted}
-use Rattle.transcript.proofs.Printing.{join-within, text-is}
+use Rattle.transcript.proofs.Sessions.{rows-printed}
 use Rattle.stream.specs.Input.{unfinished, valuesOf, valuesAfter, restAfter}
 use Rattle.stream.specs.Refusals.{lastLine, lineCount, refusals, unfinishedText}
 use Rattle.stream.specs.Taking.{Steps, none, then, keptMost, keptBytes, refusalRoom, keptAfter}
@@ -149,19 +148,15 @@ module _ (st : State) (s : Reading) (S : Stores) (out rows′ out′ : List ℕ)
 
       with-report : s .session .complete ≡ true → ReportAfter s (S .rows) out rows′ out′ r → Goal true
       with-report c g =
-          let k = kept-here c in
-          let p = planOf (s .session) in
-          let used = take (usedRows (s .session)) rows′ in
-          let w = g .report .written (g .number) in
-          let same : storeText p used ≡ printedRows p (joinOf (st .outer) (st .inner)) =
-          text-is p (wallOf (s .session) S .rows) used (joinOf (st .outer) (st .inner)) (k .rows)
-          (join-within p (wallOf (s .session) S .inner) (st .outer) (st .inner) (k .inner))
-          (g .report .store (g .number)) in
-          let tail : take (g .reported .bytes) (drop (length (restText s)) out′) ≡ storeText p used =
-          ap₂ take (w .size) (w .text) ∙ take-append-seam (storeText p used) _ in
+          let n = length (restText s) in
+          let enough : textRoom wallRowsMost ≤ length (drop n out) =
+          omega (arith, length-drop n out, unfinished-length (s .lines) (keptBytes s)) in
+          let p =
+          rows-printed (machineOf st) (s .session) S (rw e (a .good)) (kept-here c) (drop n out)
+          (take (usedRows (s .session)) rows′) (drop n out′) (g .reported) (g .report) enough in
           ap (λ (n : ℕ). take n out′) (g .bytes)
-          ∙ take-add (length (restText s)) (g .reported .bytes) out′
-          ∙ ap₂ _++_ (g .rest) (tail ∙ same)
+          ∙ take-add n (g .reported .bytes) out′
+          ∙ ap₂ _++_ (g .rest) (ap₂ take (p .bytes) (p .text) ∙ take-append-seam _ _)
 
       without-report : NoReport s (S .rows) out rows′ out′ r → Goal false
       without-report g = ap₂ take (g .bytes) (g .text) ∙ take-append-seam (restText s ++ countLine 0) _

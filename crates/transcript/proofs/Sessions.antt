@@ -56,7 +56,7 @@ machine-kept ts s S h c m e =
     let same : k .0 ≡ m = cc (k .1) in
     rw same at (k .2)
 
-rows-printed : (m : Machine) (s : Session) (S : Stores) → Good s → Kept m (planOf s) (wallOf s S)
+pub rows-printed : (m : Machine) (s : Session) (S : Stores) → Good s → Kept m (planOf s) (wallOf s S)
     → (out rows′ out′ : List ℕ) (r : Reported) → ReportWritten (planOf s) (wallOf s S .rows) out rows′ out′ r
     → textRoom wallRowsMost ≤ length out → Printed (planOf s) (joinOf (m .outer) (m .inner)) out out′ r
 rows-printed m s S g k out rows′ out′ r w h =

@@ -1,7 +1,6 @@
 -- `wall::main` is safe and ends: the buffers keep their lengths; the measure is how many parts are left to read.
 -- Assumes nothing.
 use mathlib.Core.Path.{_≡_, sym}
-use native.Mathlib.Omega.{arith}
 use borrow.Author.Needs.{needs}
 use lib.ListN.{length}
 use lib.Seq.{length-take-le}

@@ -11,8 +11,6 @@ use mir.Val.{Fits, toZ, ofZ}
 use mir.ValLaws.{toZ-ofZ}
 use Rattle.wall.proofs.channel.error_number.Statement.{statement}
 use Rattle.wall.proofs.channel.error_number.Tie as tie
-use Rattle.wall.proofs.channel.error_number.Reads as reads
-use Rattle.wall.proofs.channel.error_number.Lts as lts
 
 -- what the machine reads back from the bits of `error`
 abbrev read : tie.Start → ℤ

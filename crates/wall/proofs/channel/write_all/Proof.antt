@@ -6,9 +6,6 @@ use borrow.Author.Needs.{needs}
 use lib.ListN.{length}
 use Rattle.wall.proofs.channel.write_all.Statement.{statement}
 use Rattle.wall.proofs.channel.write_all.Tie as tie
-use Rattle.wall.proofs.channel.write_all.Reads as reads
-use Rattle.wall.proofs.channel.write_all.Lts as lts
-use Rattle.wall.proofs.channel.write_some.Reads as write-some-reads
 
 abbrev Inv-loop : tie.InvT-loop
 Inv-loop fd text from₀ from = from ≤ length text
