@@ -7,12 +7,13 @@ mod channel;
 use channel::Moved;
 use session::ROW_WORDS;
 use session::TUPLE_WORDS;
+use stream::FINISH_BYTES;
 use stream::REFUSAL_BYTES;
 
-// The bytes of a part, as `io::buffer` has them, and of the text: a refusal for each of them.
+// The most bytes of a part. The text buffer has room for a refusal for each of them, and for the end of the text.
 const PART_BYTES: usize = 4096;
 
-const TEXT_BYTES: usize = REFUSAL_BYTES * PART_BYTES;
+const TEXT_BYTES: usize = REFUSAL_BYTES * PART_BYTES + FINISH_BYTES;
 
 // A proved loop has to end, and nothing says that the input does, so the parts are counted down from a number that no
 // run uses up.
@@ -20,7 +21,7 @@ fn main() {
     let mut outer = [0u64; TUPLE_WORDS];
     let mut inner = [0u64; TUPLE_WORDS];
     let mut rows = [0u64; ROW_WORDS];
-    let mut part = io::buffer();
+    let mut part = [0u8; PART_BYTES];
     let mut text = [0u8; TEXT_BYTES];
     let mut reading = stream::start();
     let mut turns = u64::MAX;

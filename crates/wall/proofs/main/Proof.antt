@@ -17,13 +17,10 @@ Inv-loop outer₀ inner₀ rows₀ part₀ text₀ reading₀ turns₀ outer inn
     × (length inner ≡ 1032)
     × (length rows ≡ 2568)
     × (length part ≡ 4096)
-    × (length text ≡ 204800)
+    × (length text ≡ 229442)
 
 abbrev μ-loop : tie.MeasureT-loop
 μ-loop outer₀ inner₀ rows₀ part₀ text₀ reading₀ turns₀ outer inner rows part text reading turns = turns
-
-buffer-requires : tie.Need-buffer-requires Inv-loop μ-loop
-buffer-requires c κs = search needs
 
 start-requires : tie.Need-start-requires Inv-loop μ-loop
 start-requires c κs = search needs
@@ -129,7 +126,6 @@ main-spec =
     (tie.spec
     Inv-loop
     μ-loop
-    buffer-requires
     start-requires
     loop-holds
     slice-aggregate-read-part
