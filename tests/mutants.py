@@ -1,9 +1,10 @@
-# Shows that the test program join_cases can fail. The sources of join_cases and of the crates it uses are taken as
-# Rust: the ghost lines and the promises go, declared types become Copy, io and libc become a few lines over std. The
-# unchanged build must write what crates/join_cases/stdout says; then each wrong edit below is built by itself, and must
-# write something else, stop with an error or not end. Prints 'mutants: N caught, 0 missed'; exit 1 if one is missed, 2
-# if the test could not be made. Needs python3 and rustc, works from any folder and leaves nothing behind. It says
-# nothing of the proofs.
+# Shows that the test program join_cases and the tests of the program wall can fail. The sources of a program and of the
+# crates it uses are taken as Rust: the ghost lines and the promises go, declared types become Copy, io, os and libc
+# become a few lines over the C library. The unchanged build must pass: join_cases writes what crates/join_cases/stdout
+# says, and wall is content for tests/wall_failures.py and some sessions of tests/wall_sessions.py. Then each wrong edit
+# below is built by itself, and must not pass, stop with an error or not end. Prints 'mutants: N caught, 0 missed'; exit
+# 1 if one is missed, 2 if the test could not be made. Needs python3 and rustc, works from any folder and leaves nothing
+# behind. It says nothing of the proofs.
 from concurrent.futures import ThreadPoolExecutor
 from pathlib import Path
 import os
@@ -14,11 +15,11 @@ import sys
 import tempfile
 
 ROOT = Path(__file__).resolve().parent.parent
-PROGRAM = 'join_cases'
-STOPS_AFTER = 60        # seconds
+STOPS_AFTER = 180       # seconds
+SESSIONS = 40           # of tests/wall_sessions.py, beside those at the edges
 
 # (file, what stands there once, what is put in its place)
-EDITS = [
+CALLS = [
     # the row rule
     ('rows/lib.rt', 'if !interval::tuple::same_label(outer, inner) {', 'if false {'),
     ('rows/lib.rt', 'outer: outer.item,', 'outer: inner.item,'),
@@ -304,9 +305,63 @@ EDITS = [
     ),
 ]
 
+# the program wall: what it reads and writes, which no promise can say, and some of what it prints
+WALL = [
+    # reading
+    ('wall/main.rt', 'Moved::Failed(_) => return,', 'Moved::Failed(_) => break,'),
+    ('wall/main.rt', '&part[..n],', '&part[..1],'),
+    ('wall/main.rt', 'let mut turns = u64::MAX;', 'let mut turns: u64 = 1;'),
+    ('wall/main.rt', '        reading = next;\n', ''),
+    ('wall/channel.rt', 'if got < 0 {', 'if got < -1 {'),
+    ('wall/channel.rt', 'Moved::Failed(error) => error == EINTR,', 'Moved::Failed(error) => false,'),
+    ('wall/channel.rt', 'return Moved::Failed(os::errno());', 'return Moved::Failed(0);'),
+    # writing
+    ('wall/main.rt', 'if !channel::print(&text[..bytes]) {', 'if !channel::print(&text[..0]) {'),
+    ('wall/main.rt', '(&text[..bytes]) {\n            return;', '(&text[..bytes]) {'),
+    ('wall/main.rt', '    channel::print(&text[..bytes]);\n}', '    channel::print(&text[..0]);\n}'),
+    ('wall/channel.rt', 'Moved::Bytes(n) => from += n,', 'Moved::Bytes(n) => from = text.len(),'),
+    ('wall/channel.rt', 'write_some(fd, &text[from..])', 'write_some(fd, &text[0..])'),
+    ('wall/channel.rt', 'Moved::Nothing => return Written::Failed(0),', 'Moved::Nothing => return Written::All,'),
+    ('wall/channel.rt', 'return Written::Failed(error),', 'return Written::All,'),
+    # telling
+    ('wall/channel.rt', 'tell(b"wall: read: error ", error);', ''),
+    ('wall/channel.rt', 'tell(b"wall: write: error ", error);', 'tell(b"wall: read: error ", error);'),
+    ('wall/channel.rt', 'write_all(STDERR_FILENO, &line[..n]);', 'write_all(STDOUT_FILENO, &line[..n]);'),
+    # the text
+    ('stream/lib.rt', 'let mut end = lines::place_of(part, LINE_END);', 'let mut end = lines::place_of(part, 13);'),
+    ('stream/lib.rt', 'if number == 0 {', 'if number != 0 {'),
+    ('stream/lib.rt', 'put_refusal(out, at, line, number)', 'put_refusal(out, at, number, line)'),
+    ('stream/lib.rt', 'b"rows,0\\n"', 'b"rows,9\\n"'),
+    ('stream/lib.rt', 'put_answer(out, at, lines, stepped.number)', 'put_answer(out, at, s.lines, stepped.number)'),
+    ('stream/lib.rt', 'let reading = keep(read, &part[from..]);', 'let reading = keep(read, &part[0..]);'),
+    ('stream/lib.rt', 'let reading = keep(read, &part[from..]);', 'let reading = read;'),
+    ('stream/lib.rt', 'put_refusal(rest, 0, line, lines::MALFORMED)', 'put_refusal(rest, 0, line, 16)'),
+    ('stream/lib.rt', 'if s.kept == 0 {', 'if true {'),
+]
+
 STAND_INS = '''
 pub mod libc {
+    pub const STDIN_FILENO: i32 = 0;
     pub const STDOUT_FILENO: i32 = 1;
+    pub const STDERR_FILENO: i32 = 2;
+    pub const EINTR: i32 = 4;
+    mod c {
+        extern "C" {
+            pub fn read(fd: i32, bytes: *mut u8, n: usize) -> isize;
+            pub fn write(fd: i32, bytes: *const u8, n: usize) -> isize;
+        }
+    }
+    pub fn read(fd: i32, bytes: &mut [u8]) -> isize {
+        unsafe { c::read(fd, bytes.as_mut_ptr(), bytes.len()) }
+    }
+    pub fn write(fd: i32, bytes: &[u8]) -> isize {
+        unsafe { c::write(fd, bytes.as_ptr(), bytes.len()) }
+    }
+}
+pub mod os {
+    pub fn errno() -> i32 {
+        std::io::Error::last_os_error().raw_os_error().unwrap_or(0)
+    }
 }
 pub mod io {
     use std::io::Write;
@@ -316,6 +371,9 @@ pub mod io {
     pub fn print_decimal(fd: i32, n: u64) -> bool {
         write_all(fd, n.to_string().as_bytes())
     }
+    pub fn count(got: isize, bytes: &[u8]) -> usize {
+        std::cmp::min(std::cmp::max(got, 0) as usize, bytes.len())
+    }
 }
 '''
 
@@ -324,12 +382,12 @@ def fail(words):
     sys.exit(2)
 
 # The program's crate and all that it uses, of those of this repository, by crates.txt.
-def crates():
+def crates(program):
     uses = {}
     for line in (ROOT / 'crates.txt').read_text().splitlines():
         name, _, used = line.partition('#')[0].partition(':')
         uses[name.strip()] = used.split()
-    found, left = [], [PROGRAM]
+    found, left = [], [program]
     while left:
         crate = left.pop()
         if crate in uses and crate not in found:
@@ -346,9 +404,9 @@ def as_rust(text, crate, names):
     text = re.sub(r'(?<![\w:])(' + '|'.join(names) + r')::', r'crate::\1::', text)
     return re.sub(r'(?m)^fn main\(\)', 'pub fn main()', text)
 
-# All files as Rust, by their paths.
-def sources(edit=None):
-    names = crates()
+# All files as Rust, by their paths. There is no start of std's, so that signals are as a program in C has them.
+def sources(program, edit=None):
+    names = crates(program)
     files = {}
     for crate in names:
         for path in sorted((ROOT / 'crates' / crate / 'src').glob('*.rt')):
@@ -359,43 +417,62 @@ def sources(edit=None):
                     fail(f'{at} has {text.count(edit[1])} times: {edit[1]}')
                 text = text.replace(edit[1], edit[2])
             name = 'mod' if path.stem in ('lib', 'main') else path.stem
-            files[f'{crate}/{name}.rs'] = as_rust(text, crate, names + ['io', 'libc'])
+            files[f'{crate}/{name}.rs'] = as_rust(text, crate, names + ['io', 'os', 'libc'])
     mods = ''.join(f'pub mod {crate};\n' for crate in names)
-    files['main.rs'] = f'#![allow(warnings)]\n{mods}{STAND_INS}\nfn main() {{\n    {PROGRAM}::main();\n}}\n'
+    start = f'#[no_mangle]\npub extern "C" fn main() -> i32 {{\n    {program}::main();\n    0\n}}\n'
+    files['main.rs'] = f'#![allow(warnings)]\n#![no_main]\n{mods}{STAND_INS}\n{start}'
     return files
 
-# What the build with that edit writes; None if it stops with an error or does not end.
-def written(folder, edit=None):
-    for path, text in sources(edit).items():
+# Builds the program with that edit in a folder of its own; answers its path.
+def build(folder, program, edit=None):
+    for path, text in sources(program, edit).items():
         (folder / path).parent.mkdir(parents=True, exist_ok=True)
         (folder / path).write_text(text)
     built = subprocess.run(
         ['rustc', '--edition', '2021', '-C', 'debuginfo=0', '-C', 'opt-level=0', '-C', 'overflow-checks=on',
-         '-o', 'program', 'main.rs'],
+         '-C', 'panic=abort', '-o', 'program', 'main.rs'],
         cwd=folder, stdout=subprocess.PIPE, stderr=subprocess.STDOUT, text=True)
     if built.returncode:
         fail(f'rustc refuses {edit or "the unchanged sources"}:\n{built.stdout}')
+    return folder / 'program'
+
+# Whether join_cases writes what it should; not where it stops with an error or does not end.
+def writes(program):
     try:
-        ran = subprocess.run(
-            [folder / 'program'], stdout=subprocess.PIPE, stderr=subprocess.DEVNULL, timeout=STOPS_AFTER)
+        ran = subprocess.run([program], stdout=subprocess.PIPE, stderr=subprocess.DEVNULL, timeout=STOPS_AFTER)
     except subprocess.TimeoutExpired:
-        return None
-    return ran.stdout if ran.returncode == 0 else None
+        return False
+    return ran.returncode == 0 and ran.stdout == (ROOT / 'crates' / 'join_cases' / 'stdout').read_bytes()
+
+# Whether the tests of wall are content.
+def contents(program):
+    for test in (['wall_failures.py'], ['wall_sessions.py', str(SESSIONS)]):
+        try:
+            ran = subprocess.run(
+                [sys.executable, ROOT / 'tests' / test[0], *test[1:]], env={**os.environ, 'WALL': str(program)},
+                stdout=subprocess.DEVNULL, stderr=subprocess.DEVNULL, timeout=STOPS_AFTER)
+        except subprocess.TimeoutExpired:
+            return False
+        if ran.returncode:
+            return False
+    return True
 
 def main():
     if not shutil.which('rustc'):
         fail('there is no rustc')
-    wanted = (ROOT / 'crates' / PROGRAM / 'stdout').read_bytes()
+    tried = [('join_cases', writes, edit) for edit in CALLS] + [('wall', contents, edit) for edit in WALL]
     with tempfile.TemporaryDirectory() as room:
         room = Path(room)
-        if written(room / 'unchanged') != wanted:
-            fail(f'the unchanged sources do not write crates/{PROGRAM}/stdout')
+        for program, passes in (('join_cases', writes), ('wall', contents)):
+            if not passes(build(room / program, program)):
+                fail(f'the unchanged sources of {program} do not pass')
         with ThreadPoolExecutor(os.cpu_count()) as pool:
-            outs = list(pool.map(lambda k: written(room / str(k), EDITS[k]), range(len(EDITS))))
-    missed = [edit for edit, out in zip(EDITS, outs) if out == wanted]
+            passed = list(pool.map(lambda k, program, passes, edit: passes(build(room / str(k), program, edit)),
+                                   range(len(tried)), *zip(*tried)))
+    missed = [edit for (_, _, edit), content in zip(tried, passed) if content]
     for path, old, new in missed:
         print(f'missed: {path}: {old!r} -> {new!r}')
-    print(f'mutants: {len(EDITS) - len(missed)} caught, {len(missed)} missed')
+    print(f'mutants: {len(tried) - len(missed)} caught, {len(missed)} missed')
     sys.exit(1 if missed else 0)
 
 if __name__ == '__main__':
