@@ -312,6 +312,11 @@ WALL = [
     ('wall/main.rt', '&part[..n],', '&part[..1],'),
     ('wall/main.rt', 'let mut turns = u64::MAX;', 'let mut turns: u64 = 1;'),
     ('wall/main.rt', '        reading = next;\n', ''),
+    # the words and bytes that it lends
+    ('wall/main.rt', 'REFUSAL_BYTES * PART_BYTES + FINISH_BYTES', 'REFUSAL_BYTES * 80 + FINISH_BYTES'),
+    ('wall/main.rt', 'REFUSAL_BYTES * PART_BYTES + FINISH_BYTES', 'REFUSAL_BYTES * 81'),
+    ('session/lib.rt', 'PARTITIONS as usize * ROW_ROOM', 'PARTITIONS as usize * TUPLE_ROOM'),
+    ('session/lib.rt', 'PARTITIONS as usize * TUPLE_ROOM', '7 * TUPLE_ROOM'),
     ('wall/channel.rt', 'if got < 0 {', 'if got < -1 {'),
     ('wall/channel.rt', 'Moved::Failed(error) => error == EINTR,', 'Moved::Failed(error) => false,'),
     ('wall/channel.rt', 'return Moved::Failed(os::errno());', 'return Moved::Failed(0);'),

@@ -4,16 +4,18 @@
     python3 tests/wall_failures.py
 
 A failure is told on standard error by one write of one line with the system's error number, and nothing more is
-printed: standard output has a prefix of the text. An interrupted call is made again, and a short write goes on where it
-stopped: the text is then that of an undisturbed run. Failures that no file or device gives come from a library in C
-that is loaded before the C library and answers for `read` and `write`; without a C compiler for x86-64 those cases are
-left out, and a line says so. What is expected comes from the reference of tests/wall_sessions.py. Prints
-'wall: N failures, 0 differ'; exits 1 at the first case that differs. Works from any folder; proves and builds the
-program first if that is needed (`rt check wall`), or runs the one that the environment variable WALL names."""
+printed: standard output has a prefix of the text; only a pipe whose reader has gone ends the program by the system's
+signal, without a line. An interrupted call is made again, and a short write goes on where it stopped: the text is then
+that of an undisturbed run. Failures that no file or device gives come from a library in C that is loaded before the C
+library and answers for `read` and `write`; without a C compiler for x86-64 those cases are left out, and a line says
+so. What is expected comes from the reference of tests/wall_sessions.py. Prints 'wall: N failures, 0 differ'; exits 1 at
+the first case that differs. Works from any folder; proves and builds the program first if that is needed (`rt check
+wall`), or runs the one that the environment variable WALL names."""
 import itertools
 import os
 import platform
 import shutil
+import signal
 import socket
 import subprocess
 import sys
@@ -91,7 +93,7 @@ def refusals(data):
     return b"".join(line for line in text(finished).splitlines(True) if line.startswith(b"refused"))
 
 
-def run(program, data=b"", stdin=None, stdout=None, closed=None, shim=None, **asked):
+def run(program, data=b"", stdin=None, stdout=None, closed=None, ends=0, shim=None, **asked):
     """What the program writes to standard output and standard error, the latter as a list of its writes."""
     env = dict(os.environ, **{name: str(value) for name, value in asked.items()})
     if shim:
@@ -110,8 +112,8 @@ def run(program, data=b"", stdin=None, stdout=None, closed=None, shim=None, **as
                 break
             writes.append(write)
         out.seek(0)
-        if ended.returncode:
-            raise Differs(f"it ended with {ended.returncode}")
+        if ended.returncode != ends:
+            raise Differs(f"it ended with {ended.returncode}, expected {ends}")
         return out.read(), writes
 
 
@@ -144,6 +146,11 @@ def plain_cases():
             way = dict(data=data, stdout=full)
             yield f"standard output is a full device, a text {name}", way, (b"", write_error(28))
         yield f"standard output is closed, a text {name}", dict(data=data, closed=1), (b"", write_error(9))
+    reader, broken = os.pipe()
+    os.close(reader)
+    yield ("standard output is a pipe whose reader has gone",
+           dict(data=SHORT, stdout=broken, ends=-signal.SIGPIPE), (b"", []))
+    os.close(broken)
     yield "nothing fails", dict(data=SHORT), (text(SHORT), [])
 
 

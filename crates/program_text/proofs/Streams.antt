@@ -38,7 +38,7 @@ use Rattle.stream.proofs.Takes.{take-whole}
 use Rattle.program_text.specs.Text.{State, begun, machineOf, after, numbersOf, stateAfter, answerTo}
 use Rattle.program_text.specs.Text.{reportText, textOfInput}
 use Rattle.program_text.specs.Streamed.{Reads, started, then as next, Prints, finished, inputOf, Streamed}
-use Rattle.program_text.specs.Streamed.{CutsDoNotMatter, Prefix, KeptDecideNothing, Counted}
+use Rattle.program_text.specs.Streamed.{CutsDoNotMatter, Prefix, NeverRefused, KeptDecideNothing, Counted}
 use Rattle.program_text.proofs.Agreeing.{Agrees, agrees-begun, steps-agree}
 
 -- ---- what parts leave
@@ -60,13 +60,15 @@ record ReadSo (S₀ : Stores) (input text : List ℕ) (s : Reading) (S : Stores)
 module _ (S₀ : Stores) (input text part out out′ : List ℕ) (s : Reading) (S S′ : Stores) (r : Taken)
     (h : ReadSo S₀ input text s S) (room : refusalRoom * length part ≤ length out)
     (t : TakenBy s part out S out′ S′ r) where
-  here : PartTaken s part out S out′ S′ r
-  here =
-      t .accepted
-      (t .number
+  take-none : r .number ≡ 0
+  take-none =
+      t .number
       ∙ sym
       (take-whole s (length part) (length out) (omega (arith, h .kept, length-take keptMost (unfinished input)))
-      (omega arith)))
+      (omega arith))
+
+  here : PartTaken s part out S out′ S′ r
+  here = t .accepted take-none
 
   -- the lines of the part, and what is kept after it, are those of the input
   values-are : valuesAfter (keptBytes s) part ≡ valuesOf (unfinished input ++ part)
@@ -190,6 +192,17 @@ module _ (S₀ : Stores) (y : EightPartitions S₀) where
 
 pub streamed : Streamed
 streamed S₀ y parts = record { sofar = sofar-is S₀ y parts; whole = whole-is S₀ y parts }
+
+pub never-refused : NeverRefused
+never-refused S₀ y parts text s S x =
+    let h = reads-kept x in
+    let g = steps-agree begun refl (agrees-begun S₀ y) (h .steps) in
+    let st = stateAfter begun (valuesOf (inputOf parts)) in
+    record {
+      taken = λ part out out′ S′ r room t. take-none S₀ (inputOf parts) text part out out′ s S S′ r h room t;
+      ended = λ out rows′ out′ r room f.
+          finish-none st s S out rows′ out′ r (g .agrees) (g .session) room f;
+    }
 
 pub cuts-do-not-matter : CutsDoNotMatter
 cuts-do-not-matter S₀ S₁ y z ps qs e text other p q =

@@ -67,6 +67,18 @@ Prefix =
     → (parts : List (List ℕ)) (text : List ℕ) (s : Reading) (S : Stores) → Reads S₀ parts text s S
     → (more : List ℕ) → (rest : List ℕ) × (textOfInput (inputOf parts ++ more) ≡ text ++ rest)
 
+-- no call of such a run is refused: with room for its text, each `take` answers 0, and so does `finish`
+pub record NotRefused (s : Reading) (S : Stores) : Type 0 where
+  pub taken : (part out out′ : List ℕ) (S′ : Stores) (r : Taken) → refusalRoom * length part ≤ length out
+      → TakenBy s part out S out′ S′ r → r .number ≡ 0
+  pub ended : (out rows′ out′ : List ℕ) (r : Finished) → finishRoom ≤ length out
+      → FinishedBy s (S .rows) out rows′ out′ r → r .number ≡ 0
+
+abbrev pub NeverRefused : Type 0
+NeverRefused =
+    (S₀ : Stores) → EightPartitions S₀
+    → (parts : List (List ℕ)) (text : List ℕ) (s : Reading) (S : Stores) → Reads S₀ parts text s S → NotRefused s S
+
 -- ---- laws of the definitions
 
 -- of an unfinished line 81 bytes are kept at most, which decides nothing: after those that are kept, a part finishes

@@ -1,6 +1,7 @@
 -- What the program `wall` prints, as a function of the bytes of its input (document 01, "Lines and the program"): no
--- word of stores, of parts or of code. The lines of an input and the text of refusals are in `stream` (specs Input and
--- Refusals), what a wall answers to a change in `history` (Answering), the text of rows in `transcript` (Rows).
+-- word of stores or of parts, and of the code only its types. The lines of an input and the text of refusals are in
+-- `stream` (specs Input and Refusals), what a wall answers to a change in `history` (Answering), the text of rows in
+-- `transcript` (Rows).
 -- Closed cases are in proofs/Cases.antt, document 01's example first.
 use mathlib.Core.Bool.{not}
 use mathlib.Core.List.{List, [], _∷_, _++_}
@@ -61,7 +62,8 @@ abbrev pub holding : State → Option Machine → State
 holding s none = s
 holding s (some m) = record { session = s .session; outer = m .outer; inner = m .inner }
 
--- what an accepted line makes of it: one lane more ("the line with 99999999 completes the plan"), a change
+-- what an accepted line makes of it: one lane more ("the line with 99999999 completes the plan"), a change; a line that
+-- is not of the form is not accepted
 abbrev pub accepted : State → Line → State
 accepted s (Lane m) = record { session = withLane (s .session) m; outer = s .outer; inner = s .inner }
 accepted s (Change w t) = holding s (accept (callOf w t) (machineOf s))

@@ -25,7 +25,8 @@ restText s = unfinishedText (s .lines) (keptBytes s)
 abbrev pub finishRoom : ℕ
 finishRoom = refusalRoom + textRoom wallRowsMost
 
--- 4 for a shorter text buffer; then the report's own number, which no session that began with `fresh` meets
+-- 4 for a shorter text buffer; then the report's own number, which no session meets that began with `fresh` on stores
+-- in which nobody else writes
 unfoldable pub finishNumber : Reading → List ℕ → ℕ → ℕ
 finishNumber s rows room =
     firstOf

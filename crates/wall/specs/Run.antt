@@ -1,0 +1,38 @@
+-- What the program's loop keeps: the calls of `stream` that were made so far are a run of the theorem of the program's
+-- text (crate `program_text`), on stores that had the words of 8 lanes. So no call is refused, and what they wrote is
+-- what the theorem says.
+use mathlib.Core.List.{List}
+use mathlib.Core.Path.{_≡_}
+use Prim.Native.Nat.{ℕ, _≤_}
+use lib.ListN.{length}
+use Rattle.checks.specs.Stores.{Stores, stores}
+use Rattle.session.specs.Session.{EightPartitions}
+use Rattle.stream.specs.declared.Reading.{Reading}
+use Rattle.stream.specs.declared.Taken.{Taken}
+use Rattle.stream.specs.declared.Finished.{Finished}
+use Rattle.program_text.specs.Streamed.{Reads}
+
+-- the stores as they were at first, the parts taken since, the last first, and what was written for them
+pub record Following (reading : Reading) (S : Stores) : Type 0 where
+  pub first : Stores
+  pub long : EightPartitions first
+  pub parts : List (List ℕ)
+  pub text : List ℕ
+  pub reads : Reads first parts text reading S
+
+-- the same where only the rows store is at hand
+pub record FollowingRows (reading : Reading) (rows : List ℕ) : Type 0 where
+  pub outer : List ℕ
+  pub inner : List ℕ
+  pub follows : Following reading (stores outer inner rows)
+
+-- a part that was taken: it is one of the run's, and its text lies within the buffer
+pub record PartFollowed (S : Stores) (out : List ℕ) (r : Taken) : Type 0 where
+  pub number : r .number ≡ 0
+  pub follows : Following (r .reading) S
+  pub within : r .bytes ≤ length out
+
+-- the end of the text
+pub record EndFollowed (out : List ℕ) (r : Finished) : Type 0 where
+  pub number : r .number ≡ 0
+  pub within : r .bytes ≤ length out
