@@ -14,7 +14,7 @@ use label::LabelField;
 pub const LINE_LENGTH: usize = 80;
 
 // The byte that parts fields, and the one that ends a line.
-const COMMA: u8 = 44;
+pub const COMMA: u8 = 44;
 
 pub const LINE_END: u8 = 10;
 

@@ -10,6 +10,8 @@ ghost use Rattle.text_buffer.specs.Buffer.{ended, Put};
 ghost use Rattle.report.specs.Text.{rowLine, partitionText, partitionsText, textOf};
 ghost use Rattle.report.specs.Steps.{SoundStore};
 use interval::tuple::Row;
+use lines::COMMA;
+use lines::LINE_END;
 use plan::PartitionIndex;
 use plan::Partitioning;
 use text_buffer::put_bytes;
@@ -32,12 +34,12 @@ fn put_row(out: &mut [u8], at: usize, partition: u64, row: Row) -> usize
     requires { ⌜ at + length (rowLine partition row) ≤ length (now out) ⌝ }
     ensures { λ r. ⌜ Put at (rowLine partition row) (now (out .entry)) (now (out .exit)) r ⌝ }
 {
-    let label = put_number(out, at, partition, 44);
+    let label = put_number(out, at, partition, COMMA);
     let drawing = put_label(out, label, row.label);
-    let spot = put_number(out, drawing, row.outer, 44);
-    let first = put_number(out, spot, row.inner, 44);
-    let last = put_number(out, first, row.valid.first.0, 44);
-    put_number(out, last, row.valid.last.0, 10)
+    let spot = put_number(out, drawing, row.outer, COMMA);
+    let first = put_number(out, spot, row.inner, COMMA);
+    let last = put_number(out, first, row.valid.first.0, COMMA);
+    put_number(out, last, row.valid.last.0, LINE_END)
 }
 
 // Puts the lines of a partition's rows.
@@ -84,6 +86,6 @@ pub(crate) fn put_report(p: Partitioning, rows: &[u64], out: &mut [u8]) -> usize
     ensures { λ r. ⌜ Put 0 (textOf p (now (rows .entry))) (now (out .entry)) (now (out .exit)) r ⌝ }
 {
     let word = put_bytes(out, 0, b"rows,");
-    let next = put_number(out, word, crate::count_rows(p, rows), 10);
+    let next = put_number(out, word, crate::count_rows(p, rows), LINE_END);
     put_partitions(p, rows, out, next)
 }

@@ -16,6 +16,7 @@ ghost use Rattle.stream.specs.Refusals.{refusalLine, answerText, nextLin
 ghost use Rattle.stream.specs.Taking.{keptMost, refusalRoom, betweenLines, atStart, withBytes, LineEnded};
 ghost use Rattle.stream.specs.Taking.{PartTaken, TakenBy};
 ghost use Rattle.stream.specs.Finishing.{restText, ReportEnded, FinishedBy};
+use lines::COMMA;
 use lines::LINE_END;
 use lines::LINE_LENGTH;
 use report::HEAD_BYTES;
@@ -93,7 +94,7 @@ fn put_refusal(out: &mut [u8], at: usize, line: u64, number: u64) -> usize
     ensures { λ r. ⌜ Put at (refusalLine line number) (now (out .entry)) (now (out .exit)) r ⌝ }
 {
     let word = put_bytes(out, at, b"refused,");
-    let next = put_number(out, word, line, 44);
+    let next = put_number(out, word, line, COMMA);
     put_number(out, next, number, LINE_END)
 }
 

@@ -7,6 +7,8 @@ use Prim.Native.Nat.{ℕ, _≤_}
 use lib.ListN.{length}
 use Rattle.checks.specs.Stores.{Stores, stores}
 use Rattle.session.specs.Session.{EightPartitions}
+use Rattle.stream.specs.Taking.{TakenBy}
+use Rattle.stream.specs.Finishing.{FinishedBy}
 use Rattle.stream.specs.declared.Reading.{Reading}
 use Rattle.stream.specs.declared.Taken.{Taken}
 use Rattle.stream.specs.declared.Finished.{Finished}
@@ -26,13 +28,16 @@ pub record FollowingRows (reading : Reading) (rows : List ℕ) : Type 0 where
   pub inner : List ℕ
   pub follows : Following reading (stores outer inner rows)
 
--- a part that was taken: it is one of the run's, and its text lies within the buffer
-pub record PartFollowed (S : Stores) (out : List ℕ) (r : Taken) : Type 0 where
+-- a part that was taken, as `take` promises it: it is one of the run's, and its text lies within the buffer
+pub record PartFollowed (s : Reading) (part out : List ℕ) (S : Stores) (out′ : List ℕ) (S′ : Stores) (r : Taken)
+    : Type 0 where
+  pub taken : TakenBy s part out S out′ S′ r
   pub number : r .number ≡ 0
-  pub follows : Following (r .reading) S
-  pub within : r .bytes ≤ length out
+  pub follows : Following (r .reading) S′
+  pub within : r .bytes ≤ length out′
 
--- the end of the text
-pub record EndFollowed (out : List ℕ) (r : Finished) : Type 0 where
+-- the end of the text, as `finish` promises it
+pub record EndFollowed (s : Reading) (rows out rows′ out′ : List ℕ) (r : Finished) : Type 0 where
+  pub ended : FinishedBy s rows out rows′ out′ r
   pub number : r .number ≡ 0
-  pub within : r .bytes ≤ length out
+  pub within : r .bytes ≤ length out′

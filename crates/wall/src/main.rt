@@ -36,8 +36,9 @@ fn take_part(
 ) -> Taken
     requires { ⌜ Following reading (stores (now outer) (now inner) (now rows)) ⌝ }
     requires { ⌜ refusalRoom * length (now part) ≤ length (now text) ⌝ }
-    ensures { λ r. ⌜ PartFollowed (stores (now (outer .exit)) (now (inner .exit)) (now (rows .exit)))
-        (now (text .exit)) r ⌝ }
+    ensures { λ r. ⌜ PartFollowed reading (now (part .entry))
+        (now (text .entry)) (stores (now (outer .entry)) (now (inner .entry)) (now (rows .entry)))
+        (now (text .exit)) (stores (now (outer .exit)) (now (inner .exit)) (now (rows .exit))) r ⌝ }
 {
     stream::take(reading, part, outer, inner, rows, text)
 }
@@ -46,7 +47,8 @@ fn take_part(
 fn end_text(reading: Reading, rows: &mut [u64], text: &mut [u8]) -> Finished
     requires { ⌜ FollowingRows reading (now rows) ⌝ }
     requires { ⌜ finishRoom ≤ length (now text) ⌝ }
-    ensures { λ r. ⌜ EndFollowed (now (text .exit)) r ⌝ }
+    ensures { λ r. ⌜ EndFollowed reading
+        (now (rows .entry)) (now (text .entry)) (now (rows .exit)) (now (text .exit)) r ⌝ }
 {
     stream::finish(reading, rows, text)
 }

@@ -15,10 +15,11 @@ use Rattle.wall.proofs.end_text.Statement.{statement}
 use Rattle.wall.proofs.end_text.Tie as tie
 
 ended : (s : Reading) (rows out rows′ out′ : List ℕ) (r : Finished) → FollowingRows s rows → finishRoom ≤ length out
-    → length out′ ≡ length out → FinishedBy s rows out rows′ out′ r → EndFollowed out′ r
+    → length out′ ≡ length out → FinishedBy s rows out rows′ out′ r → EndFollowed s rows out rows′ out′ r
 ended s rows out rows′ out′ r w room long f =
     let g = w .follows in
     record {
+      ended = f;
       number = never-refused (g .first) (g .long) (g .parts) (g .text) s _ (g .reads) .ended out rows′ out′ r room f;
       within = finished-within s rows out rows′ out′ r long f;
     }

@@ -16,8 +16,10 @@ use Rattle.wall.proofs.take_part.Statement.{statement}
 use Rattle.wall.proofs.take_part.Tie as tie
 
 followed : (s : Reading) (part out : List ℕ) (S : Stores) (out′ : List ℕ) (S′ : Stores) (r : Taken) → Following s S
-    → refusalRoom * length part ≤ length out → TakenBy s part out S out′ S′ r → PartFollowed S′ out′ r
+    → refusalRoom * length part ≤ length out → TakenBy s part out S out′ S′ r
+    → PartFollowed s part out S out′ S′ r
 followed s part out S out′ S′ r f room t = record {
+  taken = t;
   number = never-refused (f .first) (f .long) (f .parts) (f .text) s S (f .reads) .taken part out out′ S′ r room t;
   follows = record {
     first = f .first;
