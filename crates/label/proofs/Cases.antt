@@ -1,11 +1,13 @@
 -- Closed cases that compute, from the definitions that the promises cite: document 01's P5, the largest label and one
--- more, what is no label, and check 6.
+-- more, document 02's small letters, what is no label field, and check 6.
 -- Assumes nothing.
 use mathlib.Core.Bool.{false}
 use mathlib.Core.List.{List, [], _∷_}
 use mathlib.Core.Path.{_≡_, refl}
 use Prim.Native.Nat.{ℕ}
-use Rattle.label.specs.Label.{rank, isLetter, isLabel, labelNumber, numberOrNone, labelCheck, lettersOf}
+use lib.ListN.{replicate}
+use Rattle.label.specs.Label.{rank, isLetter, isLabel, labelNumber, capital, capitals, isLabelField}
+use Rattle.label.specs.Label.{fieldLabelNumber, numberOrNone, labelCheck, lettersOf}
 
 -- P5: A = 1, Z = 26, AA = 27, AL = 38, ZZZZZZZZ = 217,180,147,158; and the last with three letters and the first with
 -- four
@@ -26,28 +28,67 @@ Labels [] = Unit {0}
 Labels (c ∷ cs) = (numberOrNone (c .0) ≡ c .1) × (lettersOf (c .1) ≡ c .0) × Labels cs
 
 labels-hold : Labels labels
-unfolding labels Labels rank isLetter isLabel labelNumber numberOrNone lettersOf
+unfolding labels Labels rank isLetter isLabel labelNumber capital capitals isLabelField fieldLabelNumber numberOrNone
+    lettersOf
 labels-hold =
     (refl, refl, (refl, refl, (refl, refl, (refl, refl, (refl, refl, (refl, refl, (refl, refl, tt)))))))
 
--- no label: no letter, nine letters, the bytes before A and after Z, a small letter, a byte above 127
+-- document 02, (a): fields with small letters, and the labels that they stand for: a, z, eight small letters, mixed
+-- cases of AL, and the letters next to the ends of the alphabet
+fields : List (List ℕ × List ℕ)
+fields =
+    (97 ∷ [], 65 ∷ [])
+    ∷ ((122 ∷ [], 90 ∷ [])
+    ∷ ((replicate 8 122, replicate 8 90)
+    ∷ ((97 ∷ (108 ∷ []), 65 ∷ (76 ∷ []))
+    ∷ ((65 ∷ (108 ∷ []), 65 ∷ (76 ∷ []))
+    ∷ ((97 ∷ (76 ∷ []), 65 ∷ (76 ∷ []))
+    ∷ ((98 ∷ (121 ∷ []), 66 ∷ (89 ∷ []))
+    ∷ []))))))
+
+-- each has the number of its label, and none is a label itself: what is printed is the label, in capitals
+Fields : List (List ℕ × List ℕ) → Type 0
+Fields [] = Unit {0}
+Fields (c ∷ cs) =
+    (numberOrNone (c .0) ≡ labelNumber (c .1))
+    × (isLabel (c .0) ≡ false)
+    × (lettersOf (numberOrNone (c .0)) ≡ c .1)
+    × Fields cs
+
+fields-hold : Fields fields
+unfolding fields Fields rank isLetter isLabel labelNumber capital capitals isLabelField fieldLabelNumber numberOrNone
+    lettersOf
+fields-hold =
+    (refl, refl, refl, (refl, refl, refl, (refl, refl, refl, (refl, refl, refl,
+    (refl, refl, refl, (refl, refl, refl, (refl, refl, refl, tt)))))))
+
+-- no label field: no letter, nine letters, capital and small, the bytes before A and after Z, before a and after z,
+-- alone and after a letter, a digit, a byte above 127
 no-labels : List (List ℕ)
 no-labels =
     []
-    ∷ ((65 ∷ (65 ∷ (65 ∷ (65 ∷ (65 ∷ (65 ∷ (65 ∷ (65 ∷ (65 ∷ [])))))))))
+    ∷ (replicate 9 65
+    ∷ (replicate 9 97
     ∷ ((64 ∷ [])
     ∷ ((91 ∷ [])
-    ∷ ((65 ∷ (97 ∷ []))
+    ∷ ((96 ∷ [])
+    ∷ ((123 ∷ [])
+    ∷ ((97 ∷ (64 ∷ []))
+    ∷ ((97 ∷ (91 ∷ []))
+    ∷ ((97 ∷ (96 ∷ []))
+    ∷ ((97 ∷ (123 ∷ []))
+    ∷ ((97 ∷ (49 ∷ []))
     ∷ ((195 ∷ (132 ∷ []))
-    ∷ [])))))
+    ∷ []))))))))))))
 
 NoLabels : List (List ℕ) → Type 0
 NoLabels [] = Unit {0}
-NoLabels (c ∷ cs) = (isLabel c ≡ false) × NoLabels cs
+NoLabels (c ∷ cs) = (isLabelField c ≡ false) × NoLabels cs
 
 no-labels-hold : NoLabels no-labels
-unfolding no-labels NoLabels rank isLetter isLabel
-no-labels-hold = (refl, (refl, (refl, (refl, (refl, (refl, tt))))))
+unfolding no-labels NoLabels rank isLetter isLabel capital capitals isLabelField
+no-labels-hold =
+    (refl, (refl, (refl, (refl, (refl, (refl, (refl, (refl, (refl, (refl, (refl, (refl, (refl, tt)))))))))))))
 
 -- one more than the largest label's number, and 0: no letters
 past-labels : (lettersOf 217180147159 ≡ []) × (lettersOf 0 ≡ [])

@@ -163,7 +163,7 @@ letters-are n lo hi =
     (or-none (ltb n 1) (ltb labelEnd n) (le-ltb n 1 lo) (le-ltb labelEnd n hi))
 
 -- a label has one to eight letters
-parts-of-label : (bs : List ℕ) → isLabel bs ≡ true
+pub parts-of-label : (bs : List ℕ) → isLabel bs ≡ true
     → (1 ≤ length bs) × (length bs ≤ labelLength) × (all isLetter bs ≡ true)
 unfolding isLabel
 parts-of-label bs h = (

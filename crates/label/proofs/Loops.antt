@@ -3,7 +3,7 @@
 -- `letters_of`, with its laws.
 -- Assumes nothing.
 use mathlib.Core.Bool.{true, false, _&&_, _||_, and-false}
-use mathlib.Core.List.{List, [], _∷_, _++_}
+use mathlib.Core.List.{List, [], _∷_, _++_, map}
 use mathlib.Core.Logic.{_⊎_, inl, inr, ⊎-elim}
 use mathlib.Core.Path.{_≡_, refl, sym, _∙_, ap, subst}
 use Prim.Native.Nat.{ℕ, zero, suc, _+_, _-_, _*_, _/_, _%_, _≤_, _<_}
@@ -16,38 +16,43 @@ use lib.Dec.{leb, ltb}
 use borrow.Author.Tests.{lt-ltb, le-ltb, le-leb, lt-leb}
 use Rattle.lists.specs.Choice.{pick}
 use Rattle.lists.specs.Members.{all}
-use Rattle.lists.proofs.Choice.{bool-cases, and-both, or-right, pick-true, pick-false}
-use Rattle.lists.proofs.Members.{all-end, all-next, all-stop}
+use Rattle.lists.proofs.Choice.{bool-cases, or-right, pick-true, pick-false}
 use Rattle.label.specs.Label.{labelEnd, labelLength, rank, isLetter, isLabel, numberFrom, labelNumber}
-use Rattle.label.specs.Label.{numberOrNone, lettersBefore, lettersOf, LabelRead, LettersWritten}
+use Rattle.label.specs.Label.{capital, capitals, isLabelField, fieldLabelNumber, numberOrNone}
+use Rattle.label.specs.Label.{lettersBefore, lettersOf, LabelRead, LettersWritten}
 use Rattle.label.specs.declared.LabelField.the-variants.{Number, Malformed}
-use Rattle.label.proofs.Labels.{label-range, largest, largest-rises, number-step, letters-are, none-left}
+use Rattle.label.proofs.Labels.{largest, largest-rises, number-step, letters-are, none-left}
+use Rattle.label.proofs.Fields.{capitals-length, field-range}
 
--- ---- bytes that are no label
+-- ---- bytes that are no label field
 
-none-of : (bs : List ℕ) → isLabel bs ≡ false → 0 ≡ numberOrNone bs
+none-of : (bs : List ℕ) → isLabelField bs ≡ false → 0 ≡ numberOrNone bs
 unfolding numberOrNone
-none-of bs e = sym (pick-false (isLabel bs) (labelNumber bs) 0 e)
+none-of bs e = sym (pick-false (isLabelField bs) (fieldLabelNumber bs) 0 e)
 
-label-of : (bs : List ℕ) → isLabel bs ≡ true → numberOrNone bs ≡ labelNumber bs
+label-of : (bs : List ℕ) → isLabelField bs ≡ true → numberOrNone bs ≡ fieldLabelNumber bs
 unfolding numberOrNone
-label-of bs e = pick-true (isLabel bs) (labelNumber bs) 0 e
+label-of bs e = pick-true (isLabelField bs) (fieldLabelNumber bs) 0 e
+
+-- a field's length, and its letters
+field-is : (bs : List ℕ)
+    → isLabelField bs ≡ (leb 1 (length bs) && (leb (length bs) labelLength && all isLetter (capitals bs)))
+unfolding isLabelField isLabel
+field-is bs = rw (capitals-length bs)
 
 pub none-short : (bs : List ℕ) → length bs < 1 → 0 ≡ numberOrNone bs
-unfolding isLabel
-none-short bs h = none-of bs (rw (lt-leb 1 (length bs) h))
+none-short bs h = none-of bs (field-is bs ∙ rw (lt-leb 1 (length bs) h))
 
 pub none-long : (bs : List ℕ) → 8 < length bs → 0 ≡ numberOrNone bs
-unfolding isLabel
-none-long bs h = none-of bs (rw (lt-leb (length bs) 8 h) (and-false (leb 1 (length bs))))
+none-long bs h = none-of bs (field-is bs ∙ rw (lt-leb (length bs) 8 h) (and-false (leb 1 (length bs))))
 
--- ---- reading: i letters are read, and their number is n
+-- ---- reading: i bytes are read, all of them letters, and the number of their capitals is n
 
 pub record Read (bs : List ℕ) (i n : ℕ) : Type 0 where
   pub within : i ≤ length bs
   pub small : n ≤ largest i
-  pub letters : all isLetter bs ≡ all isLetter (drop i bs)
-  pub number : numberFrom 0 bs ≡ numberFrom n (drop i bs)
+  pub letters : all isLetter (capitals bs) ≡ all isLetter (capitals (drop i bs))
+  pub number : numberFrom 0 (capitals bs) ≡ numberFrom n (capitals (drop i bs))
 
 pub read-none : (bs : List ℕ) → Read bs 0 0
 read-none bs = record { within = omega arith; small = omega arith; letters = refl; number = refl }
@@ -56,46 +61,51 @@ read-none bs = record { within = omega arith; small = omega arith; letters = ref
 pub number-fits : (bs : List ℕ) (i n : ℕ) → i < length bs → length bs ≤ 8 → Read bs i n → n ≤ largest 7
 number-fits bs i n h hi r = le-trans (r .small) (largest-rises i 7 (omega arith))
 
+-- the capitals of the bytes from place i on: that of the byte there, then the others'
+capitals-from : (bs : List ℕ) (i : ℕ) → i < length bs
+    → capitals (drop i bs) ≡ capital (getD bs i 0) ∷ capitals (drop (i + 1) bs)
+unfolding capitals
+capitals-from bs i h = ap (map capital) (drop-cons bs i 0 h) ∙ rw (add-one i)
+
 -- a letter more
-pub read-more : (bs : List ℕ) (i n : ℕ) → i < length bs → 0 < rank (getD bs i 0) → Read bs i n
-    → Read bs (i + 1) (26 * n + rank (getD bs i 0))
+pub read-more : (bs : List ℕ) (i n : ℕ) → i < length bs → 0 < rank (capital (getD bs i 0)) → Read bs i n
+    → Read bs (i + 1) (26 * n + rank (capital (getD bs i 0)))
 unfolding isLetter
 read-more bs i n h g r = record {
   within = omega arith;
-  small = subst (λ (m : ℕ). 26 * n + rank (getD bs i 0) ≤ largest m) (sym (add-one i))
-      (number-step i n (getD bs i 0) (r .small));
-  letters = r .letters ∙ all-next isLetter bs i 0 h (lt-ltb 0 (rank (getD bs i 0)) g);
-  number = r .number ∙ rw (drop-cons bs i 0 h, add-one i);
+  small = subst (λ (m : ℕ). 26 * n + rank (capital (getD bs i 0)) ≤ largest m) (sym (add-one i))
+      (number-step i n (capital (getD bs i 0)) (r .small));
+  letters = r .letters ∙ rw (capitals-from bs i h, lt-ltb 0 (rank (capital (getD bs i 0))) g);
+  number = r .number ∙ rw (capitals-from bs i h);
 }
 
 -- a byte that is no letter
-pub read-stop : (bs : List ℕ) (i n : ℕ) → i < length bs → rank (getD bs i 0) ≡ 0 → Read bs i n → 0 ≡ numberOrNone bs
-unfolding isLabel isLetter
+pub read-stop : (bs : List ℕ) (i n : ℕ) → i < length bs → rank (capital (getD bs i 0)) ≡ 0 → Read bs i n
+    → 0 ≡ numberOrNone bs
+unfolding isLetter
 read-stop bs i n h g r =
+    let stops : all isLetter (capitals (drop i bs)) ≡ false =
+    rw (capitals-from bs i h, le-ltb 0 (rank (capital (getD bs i 0))) (omega arith)) in
     none-of bs
-    (rw (r .letters ∙ all-stop isLetter bs i 0 h (le-ltb 0 (rank (getD bs i 0)) (omega arith)), and-false)
-    (and-false (leb 1 (length bs))))
+    (field-is bs ∙ rw (r .letters ∙ stops, and-false (leb (length bs) labelLength)) (and-false (leb 1 (length bs))))
 
 -- all letters
 pub read-all : (bs : List ℕ) (i n : ℕ) → 1 ≤ length bs → length bs ≤ 8 → length bs ≤ i → Read bs i n
     → n ≡ numberOrNone bs
-unfolding isLabel numberOrNone labelNumber
+unfolding capitals fieldLabelNumber labelNumber
 read-all bs i n lo hi h r =
-    (sym (ap (λ (cs : List ℕ). numberFrom n cs) (drop-of-length-le bs h)) ∙ sym (r .number))
-    ∙ sym
-    (pick-true (isLabel bs) (labelNumber bs) 0
-    (and-both (leb 1 (length bs)) (leb (length bs) 8 && all isLetter bs) (le-leb 1 (length bs) lo)
-    (and-both (leb (length bs) 8) (all isLetter bs) (le-leb (length bs) 8 hi)
-    (r .letters ∙ all-end isLetter bs i h))))
+    let letters : all isLetter (capitals bs) ≡ true = r .letters ∙ rw (drop-of-length-le bs h) in
+    let number : numberFrom 0 (capitals bs) ≡ n = r .number ∙ rw (drop-of-length-le bs h) in
+    sym (label-of bs (field-is bs ∙ rw (le-leb 1 (length bs) lo, le-leb (length bs) labelLength hi) letters) ∙ number)
 
 -- ---- the field: 0 stands for no label, and is no label's number
 
-label-or-none : (bs : List ℕ) → ((isLabel bs ≡ true) × (1 ≤ numberOrNone bs)) ⊎
-    ((isLabel bs ≡ false) × (numberOrNone bs ≡ 0))
-label-or-none bs = ⊎-elim (λ e. inl (e, is e)) (λ e. inr (e, sym (none-of bs e))) (bool-cases (isLabel bs))
+label-or-none : (bs : List ℕ) → ((isLabelField bs ≡ true) × (1 ≤ numberOrNone bs)) ⊎
+    ((isLabelField bs ≡ false) × (numberOrNone bs ≡ 0))
+label-or-none bs = ⊎-elim (λ e. inl (e, is e)) (λ e. inr (e, sym (none-of bs e))) (bool-cases (isLabelField bs))
   where
-    is : isLabel bs ≡ true → 1 ≤ numberOrNone bs
-    is e = omega (arith, label-range bs e, label-of bs e)
+    is : isLabelField bs ≡ true → 1 ≤ numberOrNone bs
+    is e = omega (arith, field-range bs e, label-of bs e)
 
 pub read-refused : (bs : List ℕ) (n : ℕ) → n ≡ numberOrNone bs → n ≡ 0 → LabelRead bs Malformed
 read-refused bs n e z = ⊎-elim (λ p. absurd (omega arith)) (λ p. record { number = rw (p .0); label = sym (p .1) })

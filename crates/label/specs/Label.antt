@@ -1,8 +1,8 @@
--- Labels, their numbers and their letters.
+-- Labels, their numbers and their letters; label fields, in which a letter may stand small (document 02, (a)).
 -- That each label has a number of its own, and each number from 1 to the end its label, is proved in
--- proofs/Labels.antt.
+-- proofs/Labels.antt; what a field says, in proofs/Fields.antt.
 use mathlib.Core.Bool.{Bool, not, _&&_, _||_}
-use mathlib.Core.List.{List, [], _∷_, _++_}
+use mathlib.Core.List.{List, [], _∷_, _++_, map}
 use mathlib.Core.Path.{_≡_}
 use Prim.Native.Nat.{ℕ, zero, suc, _+_, _-_, _*_, _/_, _%_}
 use lib.ListN.{length, replicate}
@@ -41,9 +41,25 @@ numberFrom n (b ∷ bs) = numberFrom (26 * n + rank b) bs
 unfoldable pub labelNumber : List ℕ → ℕ
 labelNumber bs = numberFrom 0 bs
 
--- the number of a field's bytes, or 0, which is no label's number, where they are no label
+-- "A label field may now hold a to z, each with the rank of its capital.": the capital of a small letter, 32 below it;
+-- any other byte is its own
+unfoldable pub capital : ℕ → ℕ
+capital b = pick (leb 97 b && leb b 122) (b - 32) b
+
+-- a field's bytes with each small letter as its capital: a field is read as these
+unfoldable pub capitals : List ℕ → List ℕ
+capitals bs = map capital bs
+
+-- bytes that are a label once their small letters are capitals, and that label's number
+unfoldable pub isLabelField : List ℕ → Bool
+isLabelField bs = isLabel (capitals bs)
+
+unfoldable pub fieldLabelNumber : List ℕ → ℕ
+fieldLabelNumber bs = labelNumber (capitals bs)
+
+-- the number of a field's bytes, or 0, which is no label's number, where they are no label field
 unfoldable pub numberOrNone : List ℕ → ℕ
-numberOrNone bs = pick (isLabel bs) (labelNumber bs) 0
+numberOrNone bs = pick (isLabelField bs) (fieldLabelNumber bs) 0
 
 -- check 6: label number out of range
 unfoldable pub labelCheck : ℕ → ℕ
@@ -69,9 +85,10 @@ abbrev pub fieldLabel : LabelField → ℕ
 fieldLabel (Number n) = n
 fieldLabel Malformed = 0
 
--- a label field that was read: 15 exactly where the bytes are no label, else its number
+-- a label field that was read: 15 exactly where the bytes are no label field, else its number ("A small letter in a
+-- label no longer gives 15.")
 pub record LabelRead (bs : List ℕ) (r : LabelField) : Type 0 where
-  pub number : fieldNumber r ≡ refuseIf (not (isLabel bs)) 15
+  pub number : fieldNumber r ≡ refuseIf (not (isLabelField bs)) 15
   pub label : fieldLabel r ≡ numberOrNone bs
 
 -- the letters of a number that were written: so many, in order, and zeros after them

@@ -1,12 +1,13 @@
 // Labels (document 01, 'Minutes, labels, tuples'): the number of a label's letters, the letters of a number, and the
-// reader of a label field.
+// reader of a label field, which may hold small letters (document 02, (a)); letters are written as capitals.
 //
 // Every function takes any number and any bytes. Cost: a few operations for each letter, at most eight letters. The
-// definitions that the promises cite are in specs/Label. Their laws and the theorems about them are in proofs/Labels.
+// definitions that the promises cite are in specs/Label. Their laws and the theorems about them are in proofs/: Labels,
+// Fields.
 ghost use mathlib.Core.Path.{_≡_};
 ghost use mathlib.Core.List.{_∷_};
 ghost use lib.ListN.{take};
-ghost use Rattle.label.specs.Label.{rank, numberOrNone, LabelRead, LettersWritten};
+ghost use Rattle.label.specs.Label.{rank, capital, numberOrNone, LabelRead, LettersWritten};
 
 // The number of the largest label, ZZZZZZZZ.
 pub const LABEL_END: u64 = 217_180_147_158;
@@ -42,7 +43,20 @@ fn rank_of(b: u8) -> u64
     wide(b) - 64
 }
 
-// The number of 1 to 8 letters; 0 for any other bytes.
+// The capital of a small letter; any other byte is its own.
+fn capital_of(b: u8) -> u8
+    ensures { λ r. ⌜ r ≡ capital b ⌝ }
+{
+    if b < 97 {
+        return b;
+    }
+    if 122 < b {
+        return b;
+    }
+    b - 32
+}
+
+// The number of 1 to 8 letters, capital or small; 0 for any other bytes.
 pub fn label_number(letters: &[u8]) -> u64
     ensures { λ r. ⌜ r ≡ numberOrNone (now (letters .entry)) ⌝ }
 {
@@ -56,7 +70,7 @@ pub fn label_number(letters: &[u8]) -> u64
     let mut n: u64 = 0;
     let mut i: usize = 0;
     while i < len {
-        let letter = rank_of(letters[i]);
+        let letter = rank_of(capital_of(letters[i]));
         if letter == 0 {
             return 0;
         }

@@ -8,7 +8,7 @@ use native.Mathlib.Omega.{arith}
 use borrow.Author.Tests.{not-false}
 use Rattle.lists.specs.Choice.{refuseIf}
 use Rattle.lists.proofs.Choice.{pick-true, refuse-none}
-use Rattle.label.specs.Label.{isLabel, labelNumber, numberOrNone, LabelRead}
+use Rattle.label.specs.Label.{isLabelField, fieldLabelNumber, numberOrNone, LabelRead}
 use Rattle.label.specs.declared.LabelField.{LabelField}
 use Rattle.label.specs.declared.LabelField.the-variants as label
 use Rattle.lines.specs.Fields.{isNumber, valueOf, NumberRead}
@@ -39,14 +39,14 @@ module _ (bs : List ℕ) where
 
   -- a label
   pub label-value : (r : LabelField) (n : ℕ) → LabelRead bs r → r ≡ label.Number n
-      → (isLabel bs ≡ true) × (n ≡ labelNumber bs)
+      → (isLabelField bs ≡ true) × (n ≡ fieldLabelNumber bs)
   unfolding numberOrNone
   label-value r n h e =
       let g : LabelRead bs (label.Number n) = subst (λ (f : LabelField). LabelRead bs f) e h in
-      let is : isLabel bs ≡ true = accepted (isLabel bs) (g .number) in
-      (is, g .label ∙ pick-true (isLabel bs) (labelNumber bs) 0 is)
+      let is : isLabelField bs ≡ true = accepted (isLabelField bs) (g .number) in
+      (is, g .label ∙ pick-true (isLabelField bs) (fieldLabelNumber bs) 0 is)
 
-  pub label-refused : (r : LabelField) → LabelRead bs r → r ≡ label.Malformed → isLabel bs ≡ false
+  pub label-refused : (r : LabelField) → LabelRead bs r → r ≡ label.Malformed → isLabelField bs ≡ false
   label-refused r h e =
       let g : LabelRead bs label.Malformed = subst (λ (f : LabelField). LabelRead bs f) e h in
-      refused (isLabel bs) (g .number)
+      refused (isLabelField bs) (g .number)

@@ -1,4 +1,5 @@
--- Closed cases that compute: lines and what they say. One table, one theorem; the accepted ones print back.
+-- Closed cases that compute: lines and what they say. One table, one theorem; the accepted ones print back, with their
+-- labels in capitals.
 -- Assumes nothing.
 use mathlib.Core.List.{List, [], _∷_, _++_, map}
 use mathlib.Core.Path.{_≡_, refl}
@@ -6,10 +7,12 @@ use Prim.Native.Nat.{ℕ}
 use Prim.Native.Char.{code}
 use Prim.Native.String.{String, [] as []ₛ, _∷_ as _∷ₛ_}
 use lib.ListN.{length, replicate}
-use Rattle.label.specs.Label.{rank, isLetter, isLabel, labelNumber, lettersOf}
+use Rattle.label.specs.Label.{rank, isLetter, isLabel, labelNumber, capital, capitals, isLabelField}
+use Rattle.label.specs.Label.{fieldLabelNumber, lettersOf}
 use Rattle.interval.specs.Tuple.{tuple}
 use Rattle.lines.specs.Fields.{isNumber, valueOf, digitsOf}
 use Rattle.lines.specs.Line.{laneOf, changeOf, worded, formOf, lineOf, lineNumber, printed}
+use Rattle.lines.specs.Line.{labelInCapitals, inCapitals}
 use Rattle.lines.specs.declared.Word.{Word}
 use Rattle.lines.specs.declared.Word.the-variants.{DrawIn, DrawOut, SpotIn, SpotOut}
 use Rattle.lines.specs.declared.Line.{Line}
@@ -69,6 +72,32 @@ edges =
     ∷ (change "spotin,Z,1000000,9,3" SpotIn 26 1000000 9 3
     ∷ []))))))
 
+-- document 02, (a): small letters in a label, one, eight, all or some of them small, and in the longest line
+abbrev pub small : List Case
+small =
+    change "drawin,a,1,2,3" DrawIn 1 1 2 3
+    ∷ (change "spotin,z,1,2,3" SpotIn 26 1 2 3
+    ∷ (change "drawout,al,10,30,31" DrawOut 38 10 30 31
+    ∷ (change "drawin,Al,10,30,31" DrawIn 38 10 30 31
+    ∷ (change "spotout,aL,10,30,31" SpotOut 38 10 30 31
+    ∷ (change "drawin,abcdefgh,0,0,0" DrawIn 8687205886 0 0 0
+    ∷ (change "drawin,aBCdEfgH,0,0,0" DrawIn 8687205886 0 0 0
+    ∷ (change "drawout,zzzzzzzz,99999999,99999999,99999999" DrawOut 217180147158 99999999 99999999 99999999
+    ∷ [])))))))
+
+-- what these print as
+abbrev pub smallPrinted : List (List ℕ)
+smallPrinted =
+    bytes "drawin,A,1,2,3"
+    ∷ (bytes "spotin,Z,1,2,3"
+    ∷ (bytes "drawout,AL,10,30,31"
+    ∷ (bytes "drawin,AL,10,30,31"
+    ∷ (bytes "spotout,AL,10,30,31"
+    ∷ (bytes "drawin,ABCDEFGH,0,0,0"
+    ∷ (bytes "drawin,ABCDEFGH,0,0,0"
+    ∷ (bytes "drawout,ZZZZZZZZ,99999999,99999999,99999999"
+    ∷ [])))))))
+
 -- a lane line: no number, a leading 0, nine digits, a field too few or too many, another byte before or after
 abbrev pub lanes : List Case
 lanes =
@@ -91,11 +120,10 @@ lanes =
     ∷ (bad "drawin,1"
     ∷ []))))))))))))))))
 
--- a change: no label, nine letters, small letters, a number that is none, a field too few or too many, another word
+-- a change: no label, nine letters, a number that is none, a field too few or too many, another word
 abbrev pub changes : List Case
 changes =
     bad "drawin,ABCDEFGHI,0,0,0"
-    ∷ (bad "drawin,al,1,1,1"
     ∷ (bad "drawin,,1,1,1"
     ∷ (bad "drawin,A1,1,1,1"
     ∷ (bad "drawin,AL,1,2"
@@ -109,7 +137,32 @@ changes =
     ∷ (bad "drawin;AL;10;30;31"
     ∷ (bad "draw,AL,1,1,1"
     ∷ (bad "lane,AL,1,1,1"
-    ∷ []))))))))))))))
+    ∷ [])))))))))))))
+
+-- small letters: nine of them, the bytes next to a and z and next to A and Z, a small letter in a number, and words in
+-- capitals
+abbrev pub smallRefused : List Case
+smallRefused =
+    bad "drawin,abcdefghi,0,0,0"
+    ∷ (bad "drawin,`,1,1,1"
+    ∷ (bad "drawin,{,1,1,1"
+    ∷ (bad "drawin,@,1,1,1"
+    ∷ (bad "drawin,[,1,1,1"
+    ∷ (bad "drawin,a`,1,1,1"
+    ∷ (bad "drawin,z{,1,1,1"
+    ∷ (bad "drawin,a1,1,1,1"
+    ∷ (bad "drawin,al,1a,1,1"
+    ∷ (bad "drawin,al,1,a,1"
+    ∷ (bad "drawin,al,1,1,z"
+    ∷ (bad "lane,a"
+    ∷ (bad "LANE,34"
+    ∷ (bad "DRAWIN,AL,10,30,31"
+    ∷ (bad "drawIn,AL,10,30,31"
+    ∷ (bad "Drawin,al,10,30,31"
+    ∷ (bad "DRAWOUT,al,10,30,31"
+    ∷ (bad "SPOTIN,AL,1,30,35"
+    ∷ (bad "spotOut,al,1,30,35"
+    ∷ []))))))))))))))))))
 
 -- no byte, a comma alone, and the limit: 80 bytes and 81. A line of the form has at most 43 (line-length), so the first
 -- of these two is refused by its second field, the other by its length too
@@ -122,27 +175,38 @@ lengths = refused [] ∷ (bad "," ∷ (refused (long 75) ∷ (refused (long 76) 
 abbrev pub accepted : List Case
 accepted = example ++ edges
 
+abbrev pub refusedLines : List Case
+refusedLines = lanes ++ (changes ++ (smallRefused ++ lengths))
+
 abbrev pub table : List Case
-table = accepted ++ (lanes ++ (changes ++ lengths))
+table = accepted ++ (small ++ refusedLines)
 
 -- ---- the theorems
 
 -- each line says what the table has for it
 pub cases-hold : map (λ (c : Case). lineOf (c .line)) table ≡ map (λ (c : Case). c .says) table
-unfolding isNumber valueOf rank isLetter isLabel labelNumber laneOf changeOf worded formOf lineOf
+unfolding isNumber valueOf rank isLetter isLabel labelNumber capital capitals isLabelField fieldLabelNumber
+    laneOf changeOf worded formOf lineOf
 cases-hold = refl
 
 -- an accepted line has the number 0, every other 15
 abbrev numbered : ℕ → List Case → Type 0
 numbered n cs = map (λ (c : Case). lineNumber (c .says)) cs ≡ map (λ (c : Case). n) cs
 
-pub numbers-hold : numbered 0 accepted × numbered 15 (lanes ++ (changes ++ lengths))
+pub numbers-hold : numbered 0 (accepted ++ small) × numbered 15 refusedLines
 numbers-hold = (refl, refl)
 
 -- the accepted ones, printed, are the lines
 pub accepted-print : map (λ (c : Case). printed (c .says)) accepted ≡ map (λ (c : Case). c .line) accepted
 unfolding digitsOf lettersOf
 accepted-print = refl
+
+-- those with small letters, printed, have their labels in capitals
+pub small-print :
+    (map (λ (c : Case). printed (c .says)) small ≡ smallPrinted)
+    × (map (λ (c : Case). inCapitals (c .line)) small ≡ smallPrinted)
+unfolding digitsOf lettersOf capital capitals labelInCapitals inCapitals
+small-print = (refl, refl)
 
 -- the last two lines have 80 and 81 bytes, and the longest that is accepted has 43
 pub long-lengths :

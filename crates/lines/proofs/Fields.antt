@@ -1,9 +1,9 @@
 -- Laws of specs/Fields: the fields of bytes, and words.
 -- In order: bytes with no comma are one field; with one, what stands before the first comma, and the fields after it;
 -- so there is at least one field, and with a comma there are two or more; the last field read whole; fields joined
--- again by commas; two runs of bytes that are the same.
+-- again by commas, and the fields of what was joined; two runs of bytes that are the same.
 -- Assumes nothing.
-use mathlib.Core.Bool.{Bool, true, false, _||_, false≢true}
+use mathlib.Core.Bool.{Bool, true, false, not, _||_, false≢true}
 use mathlib.Core.List.{List, [], _∷_, _++_}
 use mathlib.Core.Logic.{⊎-elim}
 use mathlib.Core.Path.{_≡_, refl, sym, _∙_, ap, ap₂, subst}
@@ -13,12 +13,15 @@ use native.Mathlib.Omega.{arith}
 use lib.Dec.{eqb}
 use lib.ListN.{length, take, drop, length-drop}
 use lib.Seq.{take-all}
-use borrow.Author.Tests.{eqb-true}
+use borrow.Author.Tests.{eqb-true, ne-eqb, not-true}
 use Rattle.lists.specs.Choice.{pick}
-use Rattle.lists.specs.Members.{any, placeOf}
+use Rattle.lists.specs.Members.{all, any, placeOf}
 use Rattle.lists.proofs.Choice.{bool-cases, and-left, and-right, or-neither-left, or-neither-right}
+use Rattle.lists.proofs.Members.{any-map, any-cong}
 use Rattle.lists.proofs.Tally.{place-found, place-none}
-use Rattle.lines.specs.Fields.{comma, isByte, isComma, onFirst, fieldsOf, sameBytes}
+use Rattle.label.specs.Label.{capital, capitals}
+use Rattle.label.proofs.Fields.{capital-cases}
+use Rattle.lines.specs.Fields.{comma, isByte, isComma, onFirst, fieldsOf, joined, sameBytes}
 
 -- ---- the fields of bytes
 
@@ -132,11 +135,6 @@ last-field {A} form other bs two refused = ⊎-elim some none (bool-cases (any i
 
 -- ---- fields joined by commas
 
-abbrev pub joined : List (List ℕ) → List ℕ
-joined [] = []
-joined (f ∷ []) = f
-joined (f ∷ (g ∷ more)) = f ++ (comma ∷ joined (g ∷ more))
-
 -- the fields of a line, joined, are the line
 pub join-fields : (bs : List ℕ) → joined (fieldsOf bs) ≡ bs
 join-fields [] = refl
@@ -155,6 +153,43 @@ join-fields (b ∷ bs) = go (isComma b) refl (fields-some bs) (join-fields bs)
         → joined (pick t ([] ∷ fieldsOf bs) (onFirst b (fieldsOf bs))) ≡ b ∷ bs
     go true e s h = empty-first (fieldsOf bs) s ∙ ap₂ _∷_ (sym (eqb-true b comma e)) h
     go false e s h = on-first (fieldsOf bs) ∙ ap (λ (cs : List ℕ). b ∷ cs) h
+
+-- no field has a comma, and fields without commas, joined, are the fields of what they make
+abbrev pub plain : List ℕ → Bool
+plain f = not (any isComma f)
+
+pub fields-plain : (bs : List ℕ) → all plain (fieldsOf bs) ≡ true
+fields-plain [] = refl
+fields-plain (b ∷ bs) = go (isComma b) refl (fieldsOf bs) (fields-plain bs)
+  where
+    go : (t : Bool) → isComma b ≡ t → (fs : List (List ℕ)) → all plain fs ≡ true
+        → all plain (pick t ([] ∷ fs) (onFirst b fs)) ≡ true
+    go true e fs h = h
+    go false e [] h = rw e
+    go false e (f ∷ fs) h = rw e h
+
+field-then : (f rest : List ℕ) → any isComma f ≡ false → fieldsOf (f ++ (comma ∷ rest)) ≡ f ∷ fieldsOf rest
+field-then [] rest e = refl
+field-then (b ∷ f) rest e =
+    rw (or-neither-left (isComma b) (any isComma f) e, field-then f rest (or-neither-right (isComma b) (any isComma f) e))
+
+pub fields-joined : (f : List ℕ) (fs : List (List ℕ)) → all plain (f ∷ fs) ≡ true → fieldsOf (joined (f ∷ fs)) ≡ f ∷ fs
+fields-joined f [] h = fields-one f (not-true (any isComma f) (and-left (plain f) true h))
+fields-joined f (g ∷ more) h =
+    field-then f (joined (g ∷ more)) (not-true (any isComma f) (and-left (plain f) (all plain (g ∷ more)) h))
+    ∙ ap (λ (fs : List (List ℕ)). f ∷ fs) (fields-joined g more (and-right (plain f) (all plain (g ∷ more)) h))
+
+-- capitals have the commas that they had
+pub comma-capitals : (bs : List ℕ) → any isComma (capitals bs) ≡ any isComma bs
+unfolding capitals
+comma-capitals bs = any-map isComma capital bs ∙ any-cong _ isComma bs same
+  where
+    same : (b : ℕ) → isComma (capital b) ≡ isComma b
+    same b =
+        ⊎-elim
+        (λ p. ne-eqb (capital b) comma (λ e. omega (arith, p)) ∙ sym (ne-eqb b comma (λ e. omega (arith, p))))
+        (ap isComma)
+        (capital-cases b)
 
 -- ---- two runs of bytes that are the same
 

@@ -11,7 +11,7 @@ use lib.ListN.{length}
 use borrow.Author.Tests.{le-leb, lt-leb}
 use Rattle.lists.specs.Members.{any, placeOf}
 use Rattle.lists.proofs.Choice.{pick-true, pick-false}
-use Rattle.label.specs.Label.{isLabel, labelNumber}
+use Rattle.label.specs.Label.{isLabelField, fieldLabelNumber}
 use Rattle.interval.specs.Tuple.{tuple}
 use Rattle.lines.specs.Fields.{isComma, fieldsOf, sameBytes, isNumber, valueOf}
 use Rattle.lines.specs.Line.{lineLength, laneBytes, bytesOf, laneOf, changeOf, changeForm, numbersForm, spanForm}
@@ -112,7 +112,7 @@ module _ (w : Word) (label : ℕ) (bs : List ℕ) (k : ℕ) (e : k ≡ placeOf i
 -- ---- after a change's first comma, the first comma of the rest at place k
 
 -- by the label
-label-no : (w : Word) (l : List ℕ) (fs : List (List ℕ)) → isLabel l ≡ false → changeForm w (l ∷ fs) ≡ Malformed
+label-no : (w : Word) (l : List ℕ) (fs : List (List ℕ)) → isLabelField l ≡ false → changeForm w (l ∷ fs) ≡ Malformed
 unfolding changeForm changeOf
 label-no w l [] e = refl
 label-no w l (n ∷ []) e = refl
@@ -120,8 +120,8 @@ label-no w l (n ∷ (a ∷ [])) e = refl
 label-no w l (n ∷ (a ∷ (b ∷ []))) e = rw e
 label-no w l (n ∷ (a ∷ (b ∷ (c ∷ more)))) e = refl
 
-label-read : (w : Word) (l : List ℕ) (fs : List (List ℕ)) → isLabel l ≡ true
-    → changeForm w (l ∷ fs) ≡ numbersForm w (labelNumber l) fs
+label-read : (w : Word) (l : List ℕ) (fs : List (List ℕ)) → isLabelField l ≡ true
+    → changeForm w (l ∷ fs) ≡ numbersForm w (fieldLabelNumber l) fs
 unfolding changeForm changeOf numbersForm
 label-read w l [] e = refl
 label-read w l (n ∷ []) e = refl
@@ -134,12 +134,12 @@ module _ (w : Word) (bs : List ℕ) (k : ℕ) (e : k ≡ placeOf isComma bs) whe
   unfolding changeForm
   change-none h = rw (fields-none bs k e h)
 
-  pub change-label : k < length bs → isLabel (cutBefore k bs) ≡ false → Malformed ≡ changeForm w (fieldsOf bs)
+  pub change-label : k < length bs → isLabelField (cutBefore k bs) ≡ false → Malformed ≡ changeForm w (fieldsOf bs)
   change-label h f = sym (ap (changeForm w) (fields-cut bs k e h) ∙ label-no w (cutBefore k bs) _ f)
 
   -- a label: the rest answers
   pub change-numbers : (r : Line) (label : ℕ) → k < length bs
-      → (isLabel (cutBefore k bs) ≡ true) × (label ≡ labelNumber (cutBefore k bs))
+      → (isLabelField (cutBefore k bs) ≡ true) × (label ≡ fieldLabelNumber (cutBefore k bs))
       → r ≡ numbersForm w label (fieldsOf (cutAfter k bs)) → r ≡ changeForm w (fieldsOf bs)
   change-numbers r label h f a =
       a

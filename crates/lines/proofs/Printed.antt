@@ -1,67 +1,71 @@
--- A line and its value: the format is unambiguous.
--- In order: the shape of a line that is not refused, a lane's or a change's; printing its value gives the line back
--- (print-back), so two lines with one value are one line (line-unique); the bounds of what a line gives; how long a
--- line is at most, which leaves the limit of 80 bytes nothing to refuse (limit-idle).
+-- A line and its value: the format is unambiguous but for the case of the label.
+-- In order: the shape of a line that is not refused, a lane's or a change's; printing its value gives the line back with
+-- its label in capitals (print-back), so two lines with one value differ at most in the case of the label
+-- (line-unique); the bounds of what a line gives; how long a line is at most, which leaves the limit of 80 bytes nothing
+-- to refuse (limit-idle); a line reads as it does with its label in capitals (capitals-read), so a printed line reads
+-- as the value that was printed (print-read).
 -- Assumes nothing.
-use mathlib.Core.Bool.{Bool, true, false, _&&_}
+use mathlib.Core.Bool.{Bool, true, false, not, _&&_}
 use mathlib.Core.List.{List, [], _∷_, _++_}
 use mathlib.Core.Logic.{_⊎_, inl, inr, ⊎-elim}
 use mathlib.Core.Path.{_≡_, refl, sym, _∙_, ap, subst}
 use Prim.Native.Nat.{ℕ, _≤_}
 use native.Mathlib.Omega.{arith}
-use lib.Dec.{leb}
+use lib.Dec.{leb, eqb}
 use lib.ListN.{length, length-append}
 use borrow.Author.Tests.{le-ltb, leb-true, leb-false}
 use Rattle.lists.specs.Choice.{pick}
+use Rattle.lists.specs.Members.{all}
 use Rattle.lists.proofs.Choice.{and-left, and-right}
-use Rattle.label.specs.Label.{labelEnd, isLabel, labelNumber, labelCheck}
-use Rattle.label.proofs.Labels.{letters-of-label, label-range}
+use Rattle.label.specs.Label.{labelEnd, labelCheck, capitals, isLabelField, fieldLabelNumber}
+use Rattle.label.proofs.Fields.{field-range, letters-of-field, field-short, field-again, number-again}
 use Rattle.interval.specs.Time.{calendarEnd}
 use Rattle.interval.specs.Tuple.{from, to}
 use Rattle.interval.specs.declared.time.Chronon.{Chronon}
 use Rattle.interval.specs.declared.tuple.Tuple.{Tuple}
-use Rattle.lines.specs.Fields.{comma, fieldsOf, sameBytes, mostDigits, isNumber, valueOf}
+use Rattle.lines.specs.Fields.{comma, fieldsOf, joined, sameBytes, mostDigits, isNumber, valueOf}
 use Rattle.lines.specs.Line.{lineLength, laneBytes, bytesOf, laneOf, tupleRead, changeOf, worded, formOf}
-use Rattle.lines.specs.Line.{lineOf, lineNumber, printed}
+use Rattle.lines.specs.Line.{lineOf, lineNumber, printed, labelInCapitals, inCapitals}
 use Rattle.lines.specs.declared.Word.{Word}
 use Rattle.lines.specs.declared.Word.the-variants.{DrawIn, DrawOut, SpotIn, SpotOut}
 use Rattle.lines.specs.declared.Line.{Line}
 use Rattle.lines.specs.declared.Line.the-variants.{Lane, Change, Malformed}
-use Rattle.lines.proofs.Fields.{joined, join-fields, same-bytes-is}
+use Rattle.lines.proofs.Fields.{Some, fields-some, join-fields, plain, fields-plain, fields-joined}
+use Rattle.lines.proofs.Fields.{comma-capitals, same-bytes-is}
 use Rattle.lines.proofs.Numbers.{number-parts, digits-of-number, value-most}
 
 -- ---- the shape of a line
 
 -- `lane,LAST`
-pub record LaneShape (line : Line) (bs : List ℕ) : Type 0 where
+pub record LaneShape (line : Line) (fs : List (List ℕ)) : Type 0 where
   pub m : List ℕ
   pub number : isNumber m ≡ true
-  pub bytes : bs ≡ laneBytes ++ (comma ∷ m)
+  pub fields : fs ≡ laneBytes ∷ (m ∷ [])
   pub reads : line ≡ Lane (record { 0 = valueOf m })
 
 -- a word, then `,LABEL,NUMBER,FIRST,LAST`
-pub record ChangeShape (line : Line) (bs : List ℕ) : Type 0 where
+pub record ChangeShape (line : Line) (fs : List (List ℕ)) : Type 0 where
   pub word : Word
   pub l : List ℕ
   pub n : List ℕ
   pub a : List ℕ
   pub b : List ℕ
-  pub label : isLabel l ≡ true
+  pub label : isLabelField l ≡ true
   pub item : isNumber n ≡ true
   pub first : isNumber a ≡ true
   pub last : isNumber b ≡ true
-  pub bytes : bs ≡ bytesOf word ++ (comma ∷ (l ++ (comma ∷ (n ++ (comma ∷ (a ++ (comma ∷ b)))))))
+  pub fields : fs ≡ bytesOf word ∷ (l ∷ (n ∷ (a ∷ (b ∷ []))))
   pub reads : line ≡ Change word (tupleRead l n a b)
 
-abbrev pub Shape : Line → List ℕ → Type 0
-Shape line bs = (line ≡ Malformed) ⊎ (LaneShape line bs ⊎ ChangeShape line bs)
+abbrev pub Shape : Line → List (List ℕ) → Type 0
+Shape line fs = (line ≡ Malformed) ⊎ (LaneShape line fs ⊎ ChangeShape line fs)
 
-lane-shape : (w m : List ℕ) → Shape (pick (sameBytes w laneBytes) (laneOf m) Malformed) (w ++ (comma ∷ m))
+lane-shape : (w m : List ℕ) → Shape (pick (sameBytes w laneBytes) (laneOf m) Malformed) (w ∷ (m ∷ []))
 unfolding laneOf
 lane-shape w m = go (sameBytes w laneBytes) (isNumber m) refl refl
   where
     go : (s t : Bool) → sameBytes w laneBytes ≡ s → isNumber m ≡ t
-        → Shape (pick s (pick t (Lane (record { 0 = valueOf m })) Malformed) Malformed) (w ++ (comma ∷ m))
+        → Shape (pick s (pick t (Lane (record { 0 = valueOf m })) Malformed) Malformed) (w ∷ (m ∷ []))
     go false t e f = inl refl
     go true false e f = inl refl
     go true true e f =
@@ -70,21 +74,21 @@ lane-shape w m = go (sameBytes w laneBytes) (isNumber m) refl refl
         (record {
           m = m;
           number = f;
-          bytes = ap (λ (v : List ℕ). v ++ (comma ∷ m)) (same-bytes-is w laneBytes e);
+          fields = ap (λ (v : List ℕ). v ∷ (m ∷ [])) (same-bytes-is w laneBytes e);
           reads = refl;
         }))
 
 change-shape : (w : List ℕ) (v : Word) (l n a b : List ℕ) → w ≡ bytesOf v
-    → Shape (changeOf v l n a b) (w ++ (comma ∷ (l ++ (comma ∷ (n ++ (comma ∷ (a ++ (comma ∷ b))))))))
+    → Shape (changeOf v l n a b) (w ∷ (l ∷ (n ∷ (a ∷ (b ∷ [])))))
 unfolding changeOf
-change-shape w v l n a b e = go (isLabel l && (isNumber n && (isNumber a && isNumber b))) refl
+change-shape w v l n a b e = go (isLabelField l && (isNumber n && (isNumber a && isNumber b))) refl
   where
-    go : (t : Bool) → (isLabel l && (isNumber n && (isNumber a && isNumber b))) ≡ t
+    go : (t : Bool) → (isLabelField l && (isNumber n && (isNumber a && isNumber b))) ≡ t
         → Shape (pick t (Change v (tupleRead l n a b)) Malformed)
-        (w ++ (comma ∷ (l ++ (comma ∷ (n ++ (comma ∷ (a ++ (comma ∷ b))))))))
+        (w ∷ (l ∷ (n ∷ (a ∷ (b ∷ [])))))
     go false f = inl refl
     go true f =
-        let g = and-right (isLabel l) _ f in
+        let g = and-right (isLabelField l) _ f in
         let h = and-right (isNumber n) _ g in
         inr
         (inr
@@ -94,17 +98,16 @@ change-shape w v l n a b e = go (isLabel l && (isNumber n && (isNumber a && isNu
           n = n;
           a = a;
           b = b;
-          label = and-left (isLabel l) _ f;
+          label = and-left (isLabelField l) _ f;
           item = and-left (isNumber n) _ g;
           first = and-left (isNumber a) _ h;
           last = and-right (isNumber a) _ h;
-          bytes =
-              ap (λ (u : List ℕ). u ++ (comma ∷ (l ++ (comma ∷ (n ++ (comma ∷ (a ++ (comma ∷ b)))))))) e;
+          fields = ap (λ (u : List ℕ). u ∷ (l ∷ (n ∷ (a ∷ (b ∷ []))))) e;
           reads = refl;
         }))
 
 worded-shape : (w l n a b : List ℕ)
-    → Shape (worded w (λ v. changeOf v l n a b)) (w ++ (comma ∷ (l ++ (comma ∷ (n ++ (comma ∷ (a ++ (comma ∷ b))))))))
+    → Shape (worded w (λ v. changeOf v l n a b)) (w ∷ (l ∷ (n ∷ (a ∷ (b ∷ [])))))
 unfolding worded
 worded-shape w l n a b =
     go (sameBytes w (bytesOf DrawIn)) (sameBytes w (bytesOf DrawOut)) (sameBytes w (bytesOf SpotIn))
@@ -116,14 +119,14 @@ worded-shape w l n a b =
         (pick s (changeOf DrawIn l n a b)
         (pick t (changeOf DrawOut l n a b)
         (pick u (changeOf SpotIn l n a b) (pick v (changeOf SpotOut l n a b) Malformed))))
-        (w ++ (comma ∷ (l ++ (comma ∷ (n ++ (comma ∷ (a ++ (comma ∷ b))))))))
+        (w ∷ (l ∷ (n ∷ (a ∷ (b ∷ [])))))
     go true t u v e f g h = change-shape w DrawIn l n a b (same-bytes-is w (bytesOf DrawIn) e)
     go false true u v e f g h = change-shape w DrawOut l n a b (same-bytes-is w (bytesOf DrawOut) f)
     go false false true v e f g h = change-shape w SpotIn l n a b (same-bytes-is w (bytesOf SpotIn) g)
     go false false false true e f g h = change-shape w SpotOut l n a b (same-bytes-is w (bytesOf SpotOut) h)
     go false false false false e f g h = inl refl
 
-form-shape : (fs : List (List ℕ)) → Shape (formOf fs) (joined fs)
+form-shape : (fs : List (List ℕ)) → Shape (formOf fs) fs
 unfolding formOf
 form-shape (w ∷ (m ∷ [])) = lane-shape w m
 form-shape (w ∷ (l ∷ (n ∷ (a ∷ (b ∷ []))))) = worded-shape w l n a b
@@ -134,46 +137,75 @@ form-shape (w ∷ (l ∷ (n ∷ (a ∷ [])))) = inl refl
 form-shape (w ∷ (l ∷ (n ∷ (a ∷ (b ∷ (c ∷ more)))))) = inl refl
 
 -- a line is malformed, or of one of the two shapes
-pub line-shape : (bs : List ℕ) → Shape (lineOf bs) bs
+pub line-shape : (bs : List ℕ) → Shape (lineOf bs) (fieldsOf bs)
 unfolding lineOf
 line-shape bs = go (leb (length bs) lineLength)
   where
-    go : (t : Bool) → Shape (pick t (formOf (fieldsOf bs)) Malformed) bs
-    go true = subst (λ (cs : List ℕ). Shape (formOf (fieldsOf bs)) cs) (join-fields bs) (form-shape (fieldsOf bs))
+    go : (t : Bool) → Shape (pick t (formOf (fieldsOf bs)) Malformed) (fieldsOf bs)
+    go true = form-shape (fieldsOf bs)
     go false = inl refl
 
 -- ---- printing
 
-print-lane : (line : Line) (bs : List ℕ) → LaneShape line bs → printed line ≡ bs
-print-lane line bs s =
+print-lane : (line : Line) (fs : List (List ℕ)) → LaneShape line fs → printed line ≡ joined (labelInCapitals fs)
+unfolding labelInCapitals
+print-lane line fs s =
     ap printed (s .reads)
     ∙ ap (λ (ds : List ℕ). laneBytes ++ (comma ∷ ds)) (digits-of-number (s .m) (s .number))
-    ∙ sym (s .bytes)
+    ∙ rw (s .fields)
 
-print-change : (line : Line) (bs : List ℕ) → ChangeShape line bs → printed line ≡ bs
-print-change line bs s =
+print-change : (line : Line) (fs : List (List ℕ)) → ChangeShape line fs → printed line ≡ joined (labelInCapitals fs)
+unfolding labelInCapitals
+print-change line fs s =
     ap printed (s .reads)
     ∙ rw (
-      letters-of-label (s .l) (s .label),
+      letters-of-field (s .l) (s .label),
       digits-of-number (s .n) (s .item),
       digits-of-number (s .a) (s .first),
       digits-of-number (s .b) (s .last),
+      s .fields,
     )
-    (sym (s .bytes))
 
 malformed-no : (line : Line) → lineNumber line ≡ 0 → line ≡ Malformed → ⊥
 malformed-no line h e = omega (arith, sym (ap lineNumber e) ∙ h)
 
--- printing an accepted line's value gives the line back
-pub print-back : (bs : List ℕ) → lineNumber (lineOf bs) ≡ 0 → printed (lineOf bs) ≡ bs
+-- printing an accepted line's value gives the line back with its label in capitals
+pub print-back : (bs : List ℕ) → lineNumber (lineOf bs) ≡ 0 → printed (lineOf bs) ≡ inCapitals bs
+unfolding inCapitals
 print-back bs h =
     ⊎-elim (λ e. absurd (malformed-no (lineOf bs) h e))
-    (⊎-elim (print-lane (lineOf bs) bs) (print-change (lineOf bs) bs)) (line-shape bs)
+    (⊎-elim (print-lane (lineOf bs) (fieldsOf bs)) (print-change (lineOf bs) (fieldsOf bs))) (line-shape bs)
 
--- so no value has two lines
-pub line-unique : (xs ys : List ℕ) → lineNumber (lineOf xs) ≡ 0 → lineOf xs ≡ lineOf ys → xs ≡ ys
+-- the fields of a line with its label in capitals
+labels-plain : (fs : List (List ℕ)) → all plain fs ≡ true → all plain (labelInCapitals fs) ≡ true
+unfolding labelInCapitals
+labels-plain [] h = h
+labels-plain (w ∷ []) h = h
+labels-plain (w ∷ (l ∷ more)) h =
+    rw (label-plain (eqb (length more) 3)) h
+  where
+    label-plain : (t : Bool) → plain (pick t (capitals l) l) ≡ plain l
+    label-plain true = ap not (comma-capitals l)
+    label-plain false = refl
+
+pub capitals-fields : (bs : List ℕ) → fieldsOf (inCapitals bs) ≡ labelInCapitals (fieldsOf bs)
+unfolding inCapitals labelInCapitals
+capitals-fields bs = go (fieldsOf bs) (fields-some bs) (labels-plain (fieldsOf bs) (fields-plain bs))
+  where
+    go : (fs : List (List ℕ)) → Some fs → all plain (labelInCapitals fs) ≡ true
+        → fieldsOf (joined (labelInCapitals fs)) ≡ labelInCapitals fs
+    go [] s h = absurd (omega (arith, ap length (s .are)))
+    go (w ∷ []) s h = fields-joined w [] h
+    go (w ∷ (l ∷ more)) s h = fields-joined w _ h
+
+-- so two accepted lines with one value differ at most in the case of the label: their fields are the same once it
+-- stands in capitals
+pub line-unique : (xs ys : List ℕ) → lineNumber (lineOf xs) ≡ 0 → lineOf xs ≡ lineOf ys
+    → labelInCapitals (fieldsOf xs) ≡ labelInCapitals (fieldsOf ys)
 line-unique xs ys h e =
-    sym (print-back xs h) ∙ ap printed e ∙ print-back ys (ap lineNumber (sym e) ∙ h)
+    sym (capitals-fields xs)
+    ∙ ap fieldsOf (sym (print-back xs h) ∙ ap printed e ∙ print-back ys (ap lineNumber (sym e) ∙ h))
+    ∙ capitals-fields ys
 
 -- ---- bounds
 
@@ -184,12 +216,12 @@ line-lane-most bs m e = ⊎-elim none (⊎-elim lane change) (line-shape bs)
     none : lineOf bs ≡ Malformed → m .0 ≤ calendarEnd
     none f = let z : _≡_ {A = ℕ} 0 1 = cc in absurd (omega arith)
 
-    lane : LaneShape (lineOf bs) bs → m .0 ≤ calendarEnd
+    lane : LaneShape (lineOf bs) (fieldsOf bs) → m .0 ≤ calendarEnd
     lane s =
         let q : m ≡ record { 0 = valueOf (s .m) } = cc (s .reads) in
         omega (arith, ap (λ (x : Chronon). x .0) q, value-most (s .m) (s .number))
 
-    change : ChangeShape (lineOf bs) bs → m .0 ≤ calendarEnd
+    change : ChangeShape (lineOf bs) (fieldsOf bs) → m .0 ≤ calendarEnd
     change s = let z : _≡_ {A = ℕ} 0 1 = cc (s .reads) in absurd (omega arith)
 
 -- a change's label is a label's number, so check 6 never applies to it; its other numbers have at most eight digits
@@ -199,11 +231,11 @@ pub record ChangeBounds (t : Tuple) : Type 0 where
   pub first : from t ≤ calendarEnd
   pub last : to t ≤ calendarEnd
 
-label-passes : (bs : List ℕ) → isLabel bs ≡ true → labelCheck (labelNumber bs) ≡ 0
+label-passes : (bs : List ℕ) → isLabelField bs ≡ true → labelCheck (fieldLabelNumber bs) ≡ 0
 unfolding labelCheck
 label-passes bs h =
-    let r = label-range bs h in
-    rw (le-ltb (labelNumber bs) 1 (r .0), le-ltb labelEnd (labelNumber bs) (r .1))
+    let r = field-range bs h in
+    rw (le-ltb (fieldLabelNumber bs) 1 (r .0), le-ltb labelEnd (fieldLabelNumber bs) (r .1))
 
 pub line-change-bounds : (bs : List ℕ) (w : Word) (t : Tuple) → lineOf bs ≡ Change w t → ChangeBounds t
 line-change-bounds bs w t e = ⊎-elim none (⊎-elim lane change) (line-shape bs)
@@ -211,10 +243,10 @@ line-change-bounds bs w t e = ⊎-elim none (⊎-elim lane change) (line-shape b
     none : lineOf bs ≡ Malformed → ChangeBounds t
     none f = let z : _≡_ {A = ℕ} 0 1 = cc in absurd (omega arith)
 
-    lane : LaneShape (lineOf bs) bs → ChangeBounds t
+    lane : LaneShape (lineOf bs) (fieldsOf bs) → ChangeBounds t
     lane s = let z : _≡_ {A = ℕ} 0 1 = cc (s .reads) in absurd (omega arith)
 
-    change : ChangeShape (lineOf bs) bs → ChangeBounds t
+    change : ChangeShape (lineOf bs) (fieldsOf bs) → ChangeBounds t
     change s =
         let q : tupleRead (s .l) (s .n) (s .a) (s .b) ≡ t = cc (s .reads) in
         subst (λ (u : Tuple). ChangeBounds u) q
@@ -230,30 +262,26 @@ line-change-bounds bs w t e = ⊎-elim none (⊎-elim lane change) (line-shape b
 number-short : (bs : List ℕ) → isNumber bs ≡ true → length bs ≤ mostDigits
 number-short bs h = number-parts bs h .most
 
-label-short : (bs : List ℕ) → isLabel bs ≡ true → length bs ≤ 8
-unfolding isLabel
-label-short bs h = leb-true (length bs) 8 (and-left (leb (length bs) 8) _ (and-right (leb 1 (length bs)) _ h))
-
 word-short : (w : Word) → length (bytesOf w) ≤ 7
 word-short DrawIn = omega arith
 word-short DrawOut = omega arith
 word-short SpotIn = omega arith
 word-short SpotOut = omega arith
 
-shape-length : (line : Line) (bs : List ℕ) → Shape line bs → (line ≡ Malformed) ⊎ (length bs ≤ 43)
-shape-length line bs s = ⊎-elim (λ e. inl e) (λ t. inr (⊎-elim lane change t)) s
+shape-length : (line : Line) (fs : List (List ℕ)) → Shape line fs → (line ≡ Malformed) ⊎ (length (joined fs) ≤ 43)
+shape-length line fs s = ⊎-elim (λ e. inl e) (λ t. inr (⊎-elim lane change t)) s
   where
-    lane : LaneShape line bs → length bs ≤ 43
-    lane u = rw (u .bytes) (omega (arith, number-short (u .m) (u .number)))
+    lane : LaneShape line fs → length (joined fs) ≤ 43
+    lane u = rw (u .fields) (omega (arith, number-short (u .m) (u .number)))
 
-    change : ChangeShape line bs → length bs ≤ 43
+    change : ChangeShape line fs → length (joined fs) ≤ 43
     change u =
-        rw (u .bytes)
+        rw (u .fields)
         (simp length-append
         (omega (
           arith,
           word-short (u .word),
-          label-short (u .l) (u .label),
+          field-short (u .l) (u .label),
           number-short (u .n) (u .item),
           number-short (u .a) (u .first),
           number-short (u .b) (u .last),
@@ -262,18 +290,42 @@ shape-length line bs s = ⊎-elim (λ e. inl e) (λ t. inr (⊎-elim lane change
 -- a line that is not refused has at most 43 bytes
 pub line-length : (bs : List ℕ) → lineNumber (lineOf bs) ≡ 0 → length bs ≤ 43
 line-length bs h =
-    ⊎-elim (λ e. absurd (malformed-no (lineOf bs) h e)) (λ l. l) (shape-length (lineOf bs) bs (line-shape bs))
+    ⊎-elim (λ e. absurd (malformed-no (lineOf bs) h e))
+    (λ l. subst (λ (cs : List ℕ). length cs ≤ 43) (join-fields bs) l)
+    (shape-length (lineOf bs) (fieldsOf bs) (line-shape bs))
 
 -- so a line of more than 80 bytes has not the form either
 pub limit-idle : (bs : List ℕ) → lineOf bs ≡ formOf (fieldsOf bs)
 unfolding lineOf
 limit-idle bs = go (leb (length bs) lineLength) refl
   where
-    form : Shape (formOf (fieldsOf bs)) bs
-    form = subst (λ (cs : List ℕ). Shape (formOf (fieldsOf bs)) cs) (join-fields bs) (form-shape (fieldsOf bs))
-
     go : (t : Bool) → leb (length bs) lineLength ≡ t → pick t (formOf (fieldsOf bs)) Malformed ≡ formOf (fieldsOf bs)
     go true e = refl
     go false e =
-        ⊎-elim (λ f. sym f) (λ l. absurd (omega (arith, leb-false (length bs) lineLength e)))
-        (shape-length (formOf (fieldsOf bs)) bs form)
+        ⊎-elim (λ f. sym f)
+        (λ l. absurd (omega (arith, leb-false (length bs) lineLength e, rw (join-fields bs) at l)))
+        (shape-length (formOf (fieldsOf bs)) (fieldsOf bs) (form-shape (fieldsOf bs)))
+
+-- ---- the case of the label
+
+form-capitals : (fs : List (List ℕ)) → formOf (labelInCapitals fs) ≡ formOf fs
+unfolding formOf changeOf labelInCapitals
+form-capitals (w ∷ (l ∷ (n ∷ (a ∷ (b ∷ []))))) = rw (field-again l, number-again l)
+form-capitals [] = refl
+form-capitals (w ∷ []) = refl
+form-capitals (w ∷ (l ∷ [])) = refl
+form-capitals (w ∷ (l ∷ (n ∷ []))) = refl
+form-capitals (w ∷ (l ∷ (n ∷ (a ∷ [])))) = refl
+form-capitals (w ∷ (l ∷ (n ∷ (a ∷ (b ∷ (c ∷ more)))))) = refl
+
+-- a line, refused or not, reads as it does with its label in capitals
+pub capitals-read : (bs : List ℕ) → lineOf (inCapitals bs) ≡ lineOf bs
+capitals-read bs =
+    limit-idle (inCapitals bs)
+    ∙ ap formOf (capitals-fields bs)
+    ∙ form-capitals (fieldsOf bs)
+    ∙ sym (limit-idle bs)
+
+-- so an accepted line's value, printed and read again, is that value
+pub print-read : (bs : List ℕ) → lineNumber (lineOf bs) ≡ 0 → lineOf (printed (lineOf bs)) ≡ lineOf bs
+print-read bs h = ap lineOf (print-back bs h) ∙ capitals-read bs

@@ -1,7 +1,7 @@
 -- The fields of a line: bytes parted by commas, numbers, and words.
 -- The laws are in proofs/.
 use mathlib.Core.Bool.{Bool, true, false, not, _&&_, _||_}
-use mathlib.Core.List.{List, [], _∷_}
+use mathlib.Core.List.{List, [], _∷_, _++_}
 use mathlib.Core.Path.{_≡_}
 use Prim.Native.Nat.{ℕ, zero, suc, _+_, _-_, _*_, _/_, _%_}
 use lib.Dec.{leb, eqb}
@@ -34,6 +34,12 @@ onFirst b (f ∷ fs) = (b ∷ f) ∷ fs
 abbrev pub fieldsOf : List ℕ → List (List ℕ)
 fieldsOf [] = [] ∷ []
 fieldsOf (b ∷ bs) = pick (isComma b) ([] ∷ fieldsOf bs) (onFirst b (fieldsOf bs))
+
+-- fields with commas between them: of the fields of bytes, these bytes (proofs/Fields.antt, join-fields)
+abbrev pub joined : List (List ℕ) → List ℕ
+joined [] = []
+joined (f ∷ []) = f
+joined (f ∷ (g ∷ more)) = f ++ (comma ∷ joined (g ∷ more))
 
 -- two runs of bytes are the same
 abbrev pub sameBytes : List ℕ → List ℕ → Bool

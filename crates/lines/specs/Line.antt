@@ -2,13 +2,13 @@
 use mathlib.Core.Bool.{_&&_}
 use mathlib.Core.List.{List, [], _∷_, _++_}
 use Prim.Native.Nat.{ℕ}
-use lib.Dec.{leb}
+use lib.Dec.{leb, eqb}
 use lib.ListN.{length}
 use Rattle.lists.specs.Choice.{pick}
-use Rattle.label.specs.Label.{isLabel, labelNumber, lettersOf}
+use Rattle.label.specs.Label.{lettersOf, capitals, isLabelField, fieldLabelNumber}
 use Rattle.interval.specs.Tuple.{from, to, tuple}
 use Rattle.interval.specs.declared.tuple.Tuple.{Tuple}
-use Rattle.lines.specs.Fields.{comma, fieldsOf, sameBytes, isNumber, valueOf, digitsOf}
+use Rattle.lines.specs.Fields.{comma, fieldsOf, joined, sameBytes, isNumber, valueOf, digitsOf}
 use Rattle.lines.specs.declared.Word.{Word}
 use Rattle.lines.specs.declared.Word.the-variants.{DrawIn, DrawOut, SpotIn, SpotOut}
 use Rattle.lines.specs.declared.Line.{Line}
@@ -34,12 +34,12 @@ laneOf m = pick (isNumber m) (Lane (record { 0 = valueOf m })) Malformed
 
 -- the tuple that a change's fields after its word say: label, number, first minute, last minute
 abbrev pub tupleRead : List ℕ → List ℕ → List ℕ → List ℕ → Tuple
-tupleRead l n a b = tuple (labelNumber l) (valueOf n) (valueOf a) (valueOf b)
+tupleRead l n a b = tuple (fieldLabelNumber l) (valueOf n) (valueOf a) (valueOf b)
 
--- a word, then `,LABEL,NUMBER,FIRST,LAST`
+-- a word, then `,LABEL,NUMBER,FIRST,LAST`; "A label field may now hold a to z" (document 02, (a)), no other field may
 unfoldable pub changeOf : Word → List ℕ → List ℕ → List ℕ → List ℕ → Line
 changeOf w l n a b =
-    pick (isLabel l && (isNumber n && (isNumber a && isNumber b)))
+    pick (isLabelField l && (isNumber n && (isNumber a && isNumber b)))
     (Change w (tupleRead l n a b))
     Malformed
 
@@ -96,7 +96,7 @@ lineNumber (Lane m) = 0
 lineNumber (Change w t) = 0
 lineNumber Malformed = 15
 
--- the line that prints a value
+-- the line that prints a value ("Output still prints capitals.")
 abbrev pub printed : Line → List ℕ
 printed (Lane m) = laneBytes ++ (comma ∷ digitsOf (m .0))
 printed (Change w t) =
@@ -104,3 +104,12 @@ printed (Change w t) =
     ++ (comma ∷ (lettersOf (t .label)
     ++ (comma ∷ (digitsOf (t .item) ++ (comma ∷ (digitsOf (from t) ++ (comma ∷ digitsOf (to t))))))))
 printed Malformed = []
+
+-- the fields of a line with its label in capitals, the second of a change's five; and such a line
+unfoldable pub labelInCapitals : List (List ℕ) → List (List ℕ)
+labelInCapitals [] = []
+labelInCapitals (w ∷ []) = w ∷ []
+labelInCapitals (w ∷ (l ∷ more)) = w ∷ (pick (eqb (length more) 3) (capitals l) l ∷ more)
+
+unfoldable pub inCapitals : List ℕ → List ℕ
+inCapitals bs = joined (labelInCapitals (fieldsOf bs))
