@@ -58,9 +58,27 @@ Fields (c ∷ cs) =
 fields-hold : Fields fields
 unfolding fields Fields rank isLetter isLabel labelNumber capital capitals isLabelField fieldLabelNumber numberOrNone
     lettersOf
-fields-hold =
-    (refl, refl, refl, (refl, refl, refl, (refl, refl, refl, (refl, refl, refl,
-    (refl, refl, refl, (refl, refl, refl, (refl, refl, refl, tt)))))))
+fields-hold = (
+  refl,
+  refl,
+  refl,
+  (
+    refl,
+    refl,
+    refl,
+    (
+      refl,
+      refl,
+      refl,
+      (
+        refl,
+        refl,
+        refl,
+        (refl, refl, refl, (refl, refl, refl, (refl, refl, refl, tt))),
+      ),
+    ),
+  ),
+)
 
 -- no label field: no letter, nine letters, capital and small, the bytes before A and after Z, before a and after z,
 -- alone and after a letter, a digit, a byte above 127

@@ -1,5 +1,6 @@
 -- Closed cases that compute: inputs and their texts. One table, one theorem (`cases-hold`).
--- In order: how a case is written; document 01's example; what a line is; lane lines; changes; rows; the theorem.
+-- In order: how a case is written; document 01's example; what a line is; lane lines; changes; rows; small letters in
+-- labels; the theorem.
 -- Assumes nothing.
 use mathlib.Core.List.{List, [], _∷_, _++_, map}
 use mathlib.Core.Path.{_≡_, refl}
@@ -9,7 +10,8 @@ use Prim.Native.String.{String, [] as []ₛ, _∷_ as _∷ₛ_}
 use lib.ListN.{replicate}
 use Rattle.lists.specs.Choice.{firstOf}
 use Rattle.lists.specs.Members.{gather}
-use Rattle.label.specs.Label.{rank, isLetter, isLabel, labelNumber, lettersOf, labelCheck}
+use Rattle.label.specs.Label.{rank, isLetter, isLabel, labelNumber, capital, capitals, isLabelField}
+use Rattle.label.specs.Label.{fieldLabelNumber, lettersOf, labelCheck}
 use Rattle.interval.specs.Time.{overlap}
 use Rattle.interval.specs.Tuple.{sameLabel, sameInterval, sameTuple, tupleNumber, itemCheck, validCheck}
 use Rattle.plan.specs.Plan.{cutsOf, homeOf, home}
@@ -89,13 +91,13 @@ lines =
     ∷ exact "lane,99999999\n\rdrawin,A,1,1,1\n" "refused,2,15\nrows,0\n"
     ∷ []
 
--- the form, after a plan of one lane: small letters, nine letters, no letter; a leading 0, nine digits, a space; a
+-- the form, after a plan of one lane: nine letters, small and capital, no letter; a leading 0, nine digits, a space; a
 -- field too few or too many, another word, quotes; then 81 bytes, 80 bytes, 81 that end like a line
 abbrev forms : List Case
 forms =
     session
     ("lane,99999999"
-    ∷ "drawin,al,1,1,1"
+    ∷ "drawin,abcdefghi,1,1,1"
     ∷ "drawin,ABCDEFGHI,1,1,1"
     ∷ "drawin,,1,1,1"
     ∷ "drawin,A,01,1,1"
@@ -153,7 +155,7 @@ lanes =
     ∷ session ("lane,0" ∷ "lane,0" ∷ []) ("refused,2,2" ∷ "rows,0" ∷ [])
     ∷ session ("lane,99999999" ∷ "lane,5" ∷ "lane,99999999" ∷ "lane,05" ∷ [])
     ("refused,2,16" ∷ "refused,3,16" ∷ "refused,4,15" ∷ "rows,0" ∷ [])
-    ∷ session ("drawin,A,1,1,1" ∷ "lane,5" ∷ "spotout,A,1000000,2,1" ∷ "drawin,a,1,1,1" ∷ "lane,99999999" ∷ [])
+    ∷ session ("drawin,A,1,1,1" ∷ "lane,5" ∷ "spotout,A,1000000,2,1" ∷ "drawin,a1,1,1,1" ∷ "lane,99999999" ∷ [])
     ("refused,1,16" ∷ "refused,3,16" ∷ "refused,4,15" ∷ "rows,0" ∷ [])
     ∷ session ("lane,99999998" ∷ "lane,99999999" ∷ "drawin,A,1,0,99999999" ∷ "spotin,A,2,99999999,99999999" ∷ [])
     ("rows,1" ∷ "2,A,1,2,99999999,99999999" ∷ [])
@@ -264,15 +266,88 @@ orders =
     ("rows,2" ∷ "1,ZZZZZZZZ,999999,0,99999998,99999998" ∷ "1,ZZZZZZZZ,999999,999999,99999998,99999999" ∷ [])
     ∷ []
 
+-- ---- small letters in labels (document 02, (a))
+
+-- document 01's example with its labels in small letters and in both; then a drawing in small letters withdrawn in
+-- capitals and one in capitals withdrawn in small letters, and labels from a to z; then what still gives 15: words in
+-- capitals, the bytes next to the letters, nine small letters, small letters in numbers
+abbrev smalls : List Case
+smalls =
+    session
+    ("lane,34"
+    ∷ "lane,40"
+    ∷ "lane,99999999"
+    ∷ "drawin,al,10,30,31"
+    ∷ "drawin,Al,11,32,32"
+    ∷ "drawin,aL,10,33,40"
+    ∷ "drawin,al,11,41,48"
+    ∷ "spotin,AL,1,30,35"
+    ∷ "spotin,al,2,36,48"
+    ∷ [])
+    ("rows,5"
+    ∷ "1,AL,10,1,30,31"
+    ∷ "1,AL,11,1,32,32"
+    ∷ "2,AL,10,1,33,35"
+    ∷ "2,AL,10,2,36,40"
+    ∷ "3,AL,11,2,41,48"
+    ∷ [])
+    ∷ session
+    ("drawin,a,1,1,1"
+    ∷ "lane,99999999"
+    ∷ "drawin,ship,1,1,1"
+    ∷ "drawout,SHIP,1,1,1"
+    ∷ "drawin,SHIP,2,1,1"
+    ∷ "drawout,shIp,2,1,1"
+    ∷ "drawout,ship,2,1,1"
+    ∷ "drawin,a,3,1,1"
+    ∷ "drawin,z,4,1,1"
+    ∷ "drawin,zzzzzzzz,5,1,1"
+    ∷ "spotin,A,6,1,1"
+    ∷ "spotin,z,7,1,1"
+    ∷ "spotin,ZzZzZzZz,8,1,1"
+    ∷ [])
+    ("refused,1,16"
+    ∷ "refused,7,11"
+    ∷ "rows,3"
+    ∷ "1,A,3,6,1,1"
+    ∷ "1,Z,4,7,1,1"
+    ∷ "1,ZZZZZZZZ,5,8,1,1"
+    ∷ [])
+    ∷ session
+    ("Lane,99999999"
+    ∷ "lane,99999999"
+    ∷ "DRAWIN,A,1,1,1"
+    ∷ "drawIn,a,1,1,1"
+    ∷ "drawin,@,1,1,1"
+    ∷ "drawin,[,1,1,1"
+    ∷ "drawin,`,1,1,1"
+    ∷ "drawin,{,1,1,1"
+    ∷ "drawin,aaaaaaaaa,1,1,1"
+    ∷ "drawin,a,1a,1,1"
+    ∷ "spotin,a,1,1,1"
+    ∷ [])
+    ("refused,1,15"
+    ∷ "refused,3,15"
+    ∷ "refused,4,15"
+    ∷ "refused,5,15"
+    ∷ "refused,6,15"
+    ∷ "refused,7,15"
+    ∷ "refused,8,15"
+    ∷ "refused,9,15"
+    ∷ "refused,10,15"
+    ∷ "rows,0"
+    ∷ [])
+    ∷ []
+
 -- ---- the theorem
 
 abbrev pub table : List Case
-table = (example ∷ lines) ++ forms ++ lanes ++ changes ++ spans ++ multiples ++ orders
+table = (example ∷ lines) ++ forms ++ lanes ++ changes ++ spans ++ multiples ++ orders ++ smalls
 
 -- each input has the text that the table has for it
 pub cases-hold : map (λ (c : Case). textOfInput (c .input)) table ≡ map (λ (c : Case). c .prints) table
-unfolding isNumber valueOf rank isLetter isLabel labelNumber laneOf changeOf worded formOf lineOf sameLabel
-    sameInterval sameTuple printedRows laneLines sortRows putRow before rowLine countLine digitsOf lettersOf overlap
+unfolding isNumber valueOf rank isLetter isLabel labelNumber capital capitals isLabelField fieldLabelNumber
+    laneOf changeOf worded formOf lineOf sameLabel sameInterval sameTuple printedRows laneLines sortRows putRow before rowLine countLine digitsOf lettersOf overlap
     rowsOfPair joinOf rowsAt tuplesAt home homeOf cutsOf partitionFull rowsPass insertAnswer deleteAnswer labelCheck
     itemCheck validCheck tupleNumber firstOf badLane laneCheck refusalLine answerText unfinishedText after reportText
     textOfInput

@@ -3,7 +3,7 @@
 -- the definitions.
 -- Assumes nothing.
 use mathlib.Core.Bool.{Bool, true, false}
-use mathlib.Core.List.{List, [], _∷_, _++_, append-assoc}
+use mathlib.Core.List.{List, [], _∷_, _++_, map, append-assoc}
 use mathlib.Core.Path.{_≡_, refl, sym, _∙_, ap, ap₂, subst}
 use Prim.Native.Nat.{ℕ, _+_, _-_, _*_, _≤_}
 use native.Mathlib.Omega.{arith}
@@ -15,7 +15,9 @@ use Rattle.lists.specs.Choice.{pick, refuseIf, firstOf}
 use Rattle.rows.specs.Join.{joinOf}
 use Rattle.checks.specs.Stores.{Stores}
 use Rattle.history.proofs.Kept.{Kept}
+use Rattle.lines.specs.Line.{lineOf, inCapitals}
 use Rattle.lines.specs.declared.Line.{Line}
+use Rattle.lines.proofs.Printed.{capitals-read}
 use Rattle.report.specs.Text.{countLine}
 use Rattle.report.specs.Report.{textRoom, reportNumber}
 use Rattle.session.specs.Session.{wallRowsMost, EightPartitions, fresh, planOf, usedRows, wallOf}
@@ -23,7 +25,7 @@ use Rattle.session.specs.declared.Session.{Session}
 use Rattle.transcript.specs.Rows.{printedRows}
 use Rattle.transcript.proofs.Reported.{report-accepted}
 use Rattle.transcript.proofs.Sessions.{rows-printed}
-use Rattle.stream.specs.Input.{unfinished, valuesOf, valuesAfter, restAfter}
+use Rattle.stream.specs.Input.{finishedLines, unfinished, valuesOf, valuesAfter, restAfter}
 use Rattle.stream.specs.Refusals.{lastLine, lineCount, refusals, unfinishedText}
 use Rattle.stream.specs.Taking.{Steps, none, then, keptMost, keptBytes, refusalRoom, keptAfter}
 use Rattle.stream.specs.Taking.{PartTaken, TakenBy}
@@ -36,9 +38,10 @@ use Rattle.stream.proofs.Cuts.{count-append, refusals-append}
 use Rattle.stream.proofs.Refusals.{unfinished-length}
 use Rattle.stream.proofs.Takes.{take-whole}
 use Rattle.program_text.specs.Text.{State, begun, machineOf, after, numbersOf, stateAfter, answerTo}
-use Rattle.program_text.specs.Text.{reportText, textOfInput}
+use Rattle.program_text.specs.Text.{reportText, textOfLines, textOfInput}
 use Rattle.program_text.specs.Streamed.{Reads, started, then as next, Prints, finished, inputOf, Streamed}
 use Rattle.program_text.specs.Streamed.{CutsDoNotMatter, Prefix, NeverRefused, KeptDecideNothing, Counted}
+use Rattle.program_text.specs.Streamed.{CaseDoesNotMatter}
 use Rattle.program_text.proofs.Agreeing.{Agrees, agrees-begun, steps-agree}
 
 -- ---- what parts leave
@@ -256,3 +259,15 @@ count-from n (k ∷ ns) h =
 
 pub counted : Counted
 counted ns h = count-from 0 ns (omega arith) ∙ omega arith
+
+-- lines have the values that they have with their labels in capitals
+values-capitals : (ls : List (List ℕ)) → map lineOf (map inCapitals ls) ≡ map lineOf ls
+values-capitals [] = refl
+values-capitals (l ∷ ls) = ap₂ _∷_ (capitals-read l) (values-capitals ls)
+
+pub case-does-not-matter : CaseDoesNotMatter
+unfolding textOfInput
+case-does-not-matter xs ys e u =
+    ap₂ textOfLines
+    (sym (values-capitals (finishedLines xs)) ∙ ap (map lineOf) e ∙ values-capitals (finishedLines ys))
+    u

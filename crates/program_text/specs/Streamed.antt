@@ -2,14 +2,15 @@
 -- of `stream` write, in order, is the text of the whole input. It is proved in proofs/Streams.antt (`streamed`), with
 -- what follows from it and with laws of the definitions.
 use mathlib.Core.Bool.{false}
-use mathlib.Core.List.{List, [], _∷_, _++_}
+use mathlib.Core.List.{List, [], _∷_, _++_, map}
 use mathlib.Core.Path.{_≡_}
 use Prim.Native.Nat.{ℕ, _*_, _≤_}
 use lib.ListN.{length, take}
 use Rattle.lists.specs.Members.{any}
 use Rattle.checks.specs.Stores.{Stores}
+use Rattle.lines.specs.Line.{inCapitals}
 use Rattle.session.specs.Session.{EightPartitions}
-use Rattle.stream.specs.Input.{isEnd, unfinished, valuesOf, valuesAfter, restAfter}
+use Rattle.stream.specs.Input.{isEnd, finishedLines, unfinished, valuesOf, valuesAfter, restAfter}
 use Rattle.stream.specs.Refusals.{lastLine, lineCount, refusals, unfinishedText}
 use Rattle.stream.specs.Taking.{keptMost, atStart, refusalRoom, TakenBy}
 use Rattle.stream.specs.Finishing.{finishRoom, FinishedBy}
@@ -95,3 +96,10 @@ KeptDecideNothing = (bytes part : List ℕ) → any isEnd bytes ≡ false → Ke
 -- "lines counted from 1": after fewer than 2^64 lines the count is how many they are
 abbrev pub Counted : Type 0
 Counted = (numbers : List ℕ) → length numbers ≤ lastLine → lineCount 0 numbers ≡ length numbers
+
+-- document 02, (a), of whole inputs: whether a label stands in small letters changes nothing that is printed. Two inputs
+-- whose finished lines are the same once their labels stand in capitals, with the same unfinished end, have one text
+abbrev pub CaseDoesNotMatter : Type 0
+CaseDoesNotMatter =
+    (xs ys : List ℕ) → map inCapitals (finishedLines xs) ≡ map inCapitals (finishedLines ys)
+    → unfinished xs ≡ unfinished ys → textOfInput xs ≡ textOfInput ys

@@ -8,7 +8,8 @@ use Prim.Native.Nat.{ℕ, _-_}
 use Prim.Native.Char.{code}
 use Prim.Native.String.{String, [] as []ₛ, _∷_ as _∷ₛ_}
 use lib.ListN.{length, replicate}
-use Rattle.label.specs.Label.{rank, isLetter, isLabel, labelNumber, lettersOf}
+use Rattle.label.specs.Label.{rank, isLetter, isLabel, labelNumber, capital, capitals, isLabelField}
+use Rattle.label.specs.Label.{fieldLabelNumber, lettersOf}
 use Rattle.interval.specs.Time.{overlap}
 use Rattle.interval.specs.Tuple.{tuple, sameLabel, sameInterval, sameTuple}
 use Rattle.interval.specs.declared.tuple.Tuple.{Tuple}
@@ -79,7 +80,8 @@ abbrev spots : List Tuple
 spots = tuple 38 2 36 48 ∷ tuple 38 1 30 35 ∷ []
 
 example-told : machineAfter three (toldOf example []) ≡ holds drawings spots
-unfolding isNumber valueOf rank isLetter isLabel labelNumber laneOf changeOf worded formOf lineOf
+unfolding isNumber valueOf rank isLetter isLabel labelNumber capital capitals isLabelField fieldLabelNumber
+    laneOf changeOf worded formOf lineOf
 example-told = refl
 
 abbrev output : List ℕ
@@ -99,7 +101,7 @@ example-printed = refl
 -- ---- refused lines
 
 -- a change before the plan is complete, a lane that does not rise, no line of the form; then a drawing inserted twice
--- and withdrawn once, and a withdrawal that finds no such spot
+-- and withdrawn once, its label in small letters (document 02, (a)), and a withdrawal that finds no such spot
 abbrev mixed : List Got
 mixed =
     got "drawin,AL,10,30,31" 16
@@ -110,10 +112,11 @@ mixed =
     ∷ got "lane,99999999" 0
     ∷ got "drawin,AL,10,30,31" 0
     ∷ got "drawin,AL,10,30,31" 0
-    ∷ got "drawout,AL,10,30,31" 0
+    ∷ got "drawout,al,10,30,31" 0
     ∷ got "spotout,AL,1,30,35" 11
     ∷ []
 
 mixed-told : machineAfter three (toldOf mixed []) ≡ holds (tuple 38 10 30 31 ∷ []) []
-unfolding isNumber valueOf rank isLetter isLabel labelNumber laneOf changeOf worded formOf lineOf sameInterval sameTuple
+unfolding isNumber valueOf rank isLetter isLabel labelNumber capital capitals isLabelField fieldLabelNumber
+    laneOf changeOf worded formOf lineOf sameInterval sameTuple
 mixed-told = refl
