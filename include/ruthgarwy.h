@@ -59,6 +59,9 @@ extern "C" {
  * full capacity of records. A record of stores 1 and 2 is a tuple, four words: label number, item number, first
  * minute, last minute. A record of store 3 is a row, five words: label number, drawing number, spot number, first
  * minute, last minute.
+ *
+ * A label's number starts at 0 and for each of its 1 to 8 letters becomes 26 times itself plus the letter's rank: A
+ * and a have 1, Z and z have 26, so AL, Al and al are all 38. The calls take and store the number only.
  */
 #define RUTHGARWY_TUPLE_WORDS 4
 #define RUTHGARWY_ROW_WORDS 5

@@ -1,9 +1,11 @@
-# What the program interval_cases must write, worked out from document 01 alone: python3 this > stdout.
+# What the program interval_cases must write, worked out from documents 01 and 02 alone: python3 this > stdout.
 # Sets of minutes, words of letters in order, and lists of conditions; nothing is taken from the program.
 from itertools import product, islice
 import string
 
 A = string.ascii_uppercase
+# what a label field may hold: document 02, (a)
+LETTERS = A + string.ascii_lowercase
 
 def in_order():
     n = 1
@@ -25,15 +27,16 @@ upto = [sum(26 ** i for i in range(1, k + 1)) for k in range(9)]
 assert upto[8] == 217180147158
 print('ends,5,0')
 
-good = [b for b in range(256) if bytes([b]).decode('latin-1') in A]
+good = [b for b in range(256) if bytes([b]).decode('latin-1') in LETTERS]
 print(f'bytes,256,0,{len(good)},{256 - len(good)}')
 
 twos = [bytes(p) for p in product(range(256), repeat=2)]
-good = [t for t in twos if all(c in A for c in t.decode('latin-1'))]
+good = [t for t in twos if all(c in LETTERS for c in t.decode('latin-1'))]
 print(f'twos,{len(twos)},0,{len(good)},{len(twos) - len(good)}')
 
-fit = [n for n in range(11) if 1 <= n <= 8]
-print(f'lengths,11,0,{len(fit)},{11 - len(fit)}')
+rows = [letter * n for n in range(11) for letter in 'Zz']
+fit = [row for row in rows if 1 <= len(row) <= 8]
+print(f'lengths,{len(rows)},0,{len(fit)},{len(rows) - len(fit)}')
 
 big = 2 ** 64 - 1
 labels = [0, 1, upto[8], upto[8] + 1, big]

@@ -307,6 +307,15 @@ CALLS = [
 
 # the program wall: what it reads and writes, which no promise can say, and some of what it prints
 WALL = [
+    # small letters in labels, and nowhere else
+    ('label/lib.rt', 'rank_of(capital_of(letters[i]))', 'rank_of(letters[i])'),
+    ('label/lib.rt', 'b - 32\n', 'b - 33\n'),
+    ('label/lib.rt', 'if 122 < b {', 'if 121 < b {'),
+    ('label/lib.rt', 'if b < 97 {', 'if b < 98 {'),
+    ('label/lib.rt', 'if 90 < b {', 'if 91 < b {'),
+    ('label/lib.rt', '65 + last as u8', '97 + last as u8'),
+    ('lines/lib.rt', 'if a[i] != b[i] {', 'if a[i] | 32 != b[i] {'),
+    ('lines/lib.rt', 'if 57 < b {', 'if 122 < b {'),
     # reading
     ('wall/main.rt', 'Moved::Failed(_) => return,', 'Moved::Failed(_) => break,'),
     ('wall/main.rt', '&part[..n],', '&part[..1],'),

@@ -1,4 +1,4 @@
-// Label fields: every single byte, every two bytes, and rows of the letter Z of each length from 0 to 10.
+// Label fields: every single byte, every two bytes, and rows of the letters Z and z of each length from 0 to 10.
 use crate::report;
 use label::LabelField;
 
@@ -54,13 +54,13 @@ fn line(n: Counts) {
     report::end();
 }
 
-// The place of a byte in the alphabet, from 1 to 26; 0 for a byte that is not there.
+// The place of a byte in the alphabet, written both ways, from 1 to 26; 0 for a byte that is not there.
 fn place(b: u8) -> u64 {
-    let alphabet = *b"ABCDEFGHIJKLMNOPQRSTUVWXYZ";
+    let alphabet = *b"AaBbCcDdEeFfGgHhIiJjKkLlMmNnOoPpQqRrSsTtUuVvWwXxYyZz";
     let mut i: usize = 0;
-    while i < 26 {
+    while i < 52 {
         if alphabet[i] == b {
-            return i as u64 + 1;
+            return i as u64 / 2 + 1;
         }
         i += 1;
     }
@@ -155,8 +155,11 @@ fn read_first(bytes: &[u8], length: usize) -> LabelField {
 }
 
 fn one_length(n: Counts, length: usize) -> Counts {
-    let row = [90u8; 10];
-    count(n, number_of_z(length), read_first(&row, length))
+    let capital = *b"ZZZZZZZZZZ";
+    let small = *b"zzzzzzzzzz";
+    let wanted = number_of_z(length);
+    let more = count(n, wanted, read_first(&capital, length));
+    count(more, wanted, read_first(&small, length))
 }
 
 fn all_lengths() -> Counts {
@@ -169,7 +172,7 @@ fn all_lengths() -> Counts {
     n
 }
 
-// The line lengths: rows of Z, rows that differ, rows accepted, rows refused.
+// The line lengths: rows of Z and of z, rows that differ, rows accepted, rows refused.
 pub(crate) fn run_lengths() {
     report::name(b"lengths");
     line(all_lengths());

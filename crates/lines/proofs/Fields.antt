@@ -171,7 +171,10 @@ fields-plain (b ∷ bs) = go (isComma b) refl (fieldsOf bs) (fields-plain bs)
 field-then : (f rest : List ℕ) → any isComma f ≡ false → fieldsOf (f ++ (comma ∷ rest)) ≡ f ∷ fieldsOf rest
 field-then [] rest e = refl
 field-then (b ∷ f) rest e =
-    rw (or-neither-left (isComma b) (any isComma f) e, field-then f rest (or-neither-right (isComma b) (any isComma f) e))
+    rw (
+      or-neither-left (isComma b) (any isComma f) e,
+      field-then f rest (or-neither-right (isComma b) (any isComma f) e),
+    )
 
 pub fields-joined : (f : List ℕ) (fs : List (List ℕ)) → all plain (f ∷ fs) ≡ true → fieldsOf (joined (f ∷ fs)) ≡ f ∷ fs
 fields-joined f [] h = fields-one f (not-true (any isComma f) (and-left (plain f) true h))

@@ -1,9 +1,10 @@
 -- A line and its value: the format is unambiguous but for the case of the label.
--- In order: the shape of a line that is not refused, a lane's or a change's; printing its value gives the line back with
--- its label in capitals (print-back), so two lines with one value differ at most in the case of the label
--- (line-unique); the bounds of what a line gives; how long a line is at most, which leaves the limit of 80 bytes nothing
--- to refuse (limit-idle); a line reads as it does with its label in capitals (capitals-read), so a printed line reads
--- as the value that was printed (print-read).
+-- In order: the shape of a line that is not refused, a lane's or a change's; printing its value gives the line back
+-- with its label in capitals (print-back), so a line without small letters there (print-same), and two lines with one
+-- value differ at most in the case of the label (line-unique); the bounds of what a line gives; how long a line is at
+-- most, which leaves the limit of 80 bytes nothing to refuse (limit-idle); a line reads as it does with its label in
+-- capitals (capitals-read), so two lines that differ at most in the case of the label have one value (one-value), and a
+-- printed line reads as the value that was printed (print-read).
 -- Assumes nothing.
 use mathlib.Core.Bool.{Bool, true, false, not, _&&_}
 use mathlib.Core.List.{List, [], _∷_, _++_}
@@ -13,7 +14,7 @@ use Prim.Native.Nat.{ℕ, _≤_}
 use native.Mathlib.Omega.{arith}
 use lib.Dec.{leb, eqb}
 use lib.ListN.{length, length-append}
-use borrow.Author.Tests.{le-ltb, leb-true, leb-false}
+use borrow.Author.Tests.{le-ltb, leb-false}
 use Rattle.lists.specs.Choice.{pick}
 use Rattle.lists.specs.Members.{all}
 use Rattle.lists.proofs.Choice.{and-left, and-right}
@@ -176,6 +177,12 @@ print-back bs h =
     ⊎-elim (λ e. absurd (malformed-no (lineOf bs) h e))
     (⊎-elim (print-lane (lineOf bs) (fieldsOf bs)) (print-change (lineOf bs) (fieldsOf bs))) (line-shape bs)
 
+-- so a line whose label stands in capitals is given back as it was
+pub print-same : (bs : List ℕ) → lineNumber (lineOf bs) ≡ 0 → labelInCapitals (fieldsOf bs) ≡ fieldsOf bs
+    → printed (lineOf bs) ≡ bs
+unfolding inCapitals
+print-same bs h e = print-back bs h ∙ ap joined e ∙ join-fields bs
+
 -- the fields of a line with its label in capitals
 labels-plain : (fs : List (List ℕ)) → all plain fs ≡ true → all plain (labelInCapitals fs) ≡ true
 unfolding labelInCapitals
@@ -326,6 +333,12 @@ capitals-read bs =
     ∙ form-capitals (fieldsOf bs)
     ∙ sym (limit-idle bs)
 
--- so an accepted line's value, printed and read again, is that value
+-- so two lines that differ at most in the case of the label have one value
+pub one-value : (xs ys : List ℕ) → labelInCapitals (fieldsOf xs) ≡ labelInCapitals (fieldsOf ys) → lineOf xs ≡ lineOf ys
+unfolding inCapitals
+one-value xs ys e =
+    sym (capitals-read xs) ∙ ap (λ (fs : List (List ℕ)). lineOf (joined fs)) e ∙ capitals-read ys
+
+-- and an accepted line's value, printed and read again, is that value
 pub print-read : (bs : List ℕ) → lineNumber (lineOf bs) ≡ 0 → lineOf (printed (lineOf bs)) ≡ lineOf bs
 print-read bs h = ap lineOf (print-back bs h) ∙ capitals-read bs

@@ -346,9 +346,9 @@ table = (example ∷ lines) ++ forms ++ lanes ++ changes ++ spans ++ multiples +
 
 -- each input has the text that the table has for it
 pub cases-hold : map (λ (c : Case). textOfInput (c .input)) table ≡ map (λ (c : Case). c .prints) table
-unfolding isNumber valueOf rank isLetter isLabel labelNumber capital capitals isLabelField fieldLabelNumber
-    laneOf changeOf worded formOf lineOf sameLabel sameInterval sameTuple printedRows laneLines sortRows putRow before rowLine countLine digitsOf lettersOf overlap
-    rowsOfPair joinOf rowsAt tuplesAt home homeOf cutsOf partitionFull rowsPass insertAnswer deleteAnswer labelCheck
-    itemCheck validCheck tupleNumber firstOf badLane laneCheck refusalLine answerText unfinishedText after reportText
-    textOfInput
+unfolding isNumber valueOf rank isLetter isLabel labelNumber capital capitals isLabelField fieldLabelNumber laneOf
+    changeOf worded formOf lineOf sameLabel sameInterval sameTuple printedRows laneLines sortRows putRow before
+    rowLine countLine digitsOf lettersOf overlap rowsOfPair joinOf rowsAt tuplesAt home homeOf cutsOf partitionFull
+    rowsPass insertAnswer deleteAnswer labelCheck itemCheck validCheck tupleNumber firstOf badLane laneCheck
+    refusalLine answerText unfinishedText after reportText textOfInput
 cases-hold = refl

@@ -97,8 +97,9 @@ KeptDecideNothing = (bytes part : List ℕ) → any isEnd bytes ≡ false → Ke
 abbrev pub Counted : Type 0
 Counted = (numbers : List ℕ) → length numbers ≤ lastLine → lineCount 0 numbers ≡ length numbers
 
--- document 02, (a), of whole inputs: whether a label stands in small letters changes nothing that is printed. Two inputs
--- whose finished lines are the same once their labels stand in capitals, with the same unfinished end, have one text
+-- document 02, (a), of whole inputs: whether a label stands in small letters changes nothing that is printed. Two
+-- inputs whose finished lines are the same once their labels stand in capitals, with the same unfinished end, have one
+-- text
 abbrev pub CaseDoesNotMatter : Type 0
 CaseDoesNotMatter =
     (xs ys : List ℕ) → map inCapitals (finishedLines xs) ≡ map inCapitals (finishedLines ys)

@@ -1,4 +1,4 @@
--- `interval_cases::fields::place` is safe and ends. `i` is at most 26; what is left to 26 falls.
+-- `interval_cases::fields::place` is safe and ends. `i` is at most 52; what is left to 52 falls.
 -- Assumes nothing.
 use borrow.Author.Needs.{needs}
 use Prim.Native.Nat.{_≤_, _-_}
@@ -6,10 +6,10 @@ use Rattle.interval_cases.proofs.fields.place.Statement.{statement}
 use Rattle.interval_cases.proofs.fields.place.Tie as tie
 
 abbrev Inv-loop : tie.InvT-loop
-Inv-loop b alphabet i₀ i = i ≤ 26
+Inv-loop b alphabet i₀ i = i ≤ 52
 
 abbrev μ-loop : tie.MeasureT-loop
-μ-loop b alphabet i₀ i = 26 - i
+μ-loop b alphabet i₀ i = 52 - i
 
 loop-holds : tie.Need-loop-holds Inv-loop μ-loop
 loop-holds c = search needs
