@@ -2,7 +2,7 @@
 -- more, document 02's small letters, what is no label field, and check 6.
 -- Assumes nothing.
 use mathlib.Core.Bool.{false}
-use mathlib.Core.List.{List, [], _∷_}
+use mathlib.Core.List.{List, [], _∷_, map}
 use mathlib.Core.Path.{_≡_, refl}
 use Prim.Native.Nat.{ℕ}
 use lib.ListN.{replicate}
@@ -46,39 +46,15 @@ fields =
     ∷ ((98 ∷ (121 ∷ []), 66 ∷ (89 ∷ []))
     ∷ []))))))
 
--- each has the number of its label, and none is a label itself: what is printed is the label, in capitals
-Fields : List (List ℕ × List ℕ) → Type 0
-Fields [] = Unit {0}
-Fields (c ∷ cs) =
-    (numberOrNone (c .0) ≡ labelNumber (c .1))
-    × (isLabel (c .0) ≡ false)
-    × (lettersOf (numberOrNone (c .0)) ≡ c .1)
-    × Fields cs
-
-fields-hold : Fields fields
-unfolding fields Fields rank isLetter isLabel labelNumber capital capitals isLabelField fieldLabelNumber numberOrNone
-    lettersOf
-fields-hold = (
-  refl,
-  refl,
-  refl,
-  (
-    refl,
-    refl,
-    refl,
-    (
-      refl,
-      refl,
-      refl,
-      (
-        refl,
-        refl,
-        refl,
-        (refl, refl, refl, (refl, refl, refl, (refl, refl, refl, tt))),
-      ),
-    ),
-  ),
-)
+-- each has the number of its label, and what is printed is the label, in capitals; none is a label itself
+fields-hold :
+    (map (λ (c : List ℕ × List ℕ). numberOrNone (c .0)) fields
+    ≡ map (λ (c : List ℕ × List ℕ). labelNumber (c .1)) fields)
+    × (map (λ (c : List ℕ × List ℕ). lettersOf (numberOrNone (c .0))) fields
+    ≡ map (λ (c : List ℕ × List ℕ). c .1) fields)
+    × (map (λ (c : List ℕ × List ℕ). isLabel (c .0)) fields ≡ map (λ (c : List ℕ × List ℕ). false) fields)
+unfolding fields rank isLetter isLabel labelNumber capital capitals isLabelField fieldLabelNumber numberOrNone lettersOf
+fields-hold = (refl, refl, refl)
 
 -- no label field: no letter, nine letters, capital and small, the bytes before A and after Z, before a and after z,
 -- alone and after a letter, a digit, a byte above 127
@@ -99,14 +75,9 @@ no-labels =
     ∷ ((195 ∷ (132 ∷ []))
     ∷ []))))))))))))
 
-NoLabels : List (List ℕ) → Type 0
-NoLabels [] = Unit {0}
-NoLabels (c ∷ cs) = (isLabelField c ≡ false) × NoLabels cs
-
-no-labels-hold : NoLabels no-labels
-unfolding no-labels NoLabels rank isLetter isLabel capital capitals isLabelField
-no-labels-hold =
-    (refl, (refl, (refl, (refl, (refl, (refl, (refl, (refl, (refl, (refl, (refl, (refl, (refl, tt)))))))))))))
+no-labels-hold : map isLabelField no-labels ≡ map (λ (c : List ℕ). false) no-labels
+unfolding no-labels rank isLetter isLabel capital capitals isLabelField
+no-labels-hold = refl
 
 -- one more than the largest label's number, and 0: no letters
 past-labels : (lettersOf 217180147159 ≡ []) × (lettersOf 0 ≡ [])

@@ -57,7 +57,7 @@ pub capitals-length : (bs : List ℕ) → length (capitals bs) ≡ length bs
 unfolding capitals
 capitals-length bs = length-map bs capital
 
-pub capitals-again : (bs : List ℕ) → capitals (capitals bs) ≡ capitals bs
+capitals-again : (bs : List ℕ) → capitals (capitals bs) ≡ capitals bs
 unfolding capitals
 capitals-again [] = refl
 capitals-again (b ∷ bs) = ap₂ _∷_ (capital-again b) (capitals-again bs)
@@ -71,7 +71,7 @@ letters-own (b ∷ bs) h =
     ap₂ _∷_ (capital-below b (omega (arith, rank-most b, letter-is b (and-left (isLetter b) (all isLetter bs) h))))
     (letters-own bs (and-right (isLetter b) (all isLetter bs) h))
 
-pub label-own : (bs : List ℕ) → isLabel bs ≡ true → capitals bs ≡ bs
+label-own : (bs : List ℕ) → isLabel bs ≡ true → capitals bs ≡ bs
 label-own bs h = letters-own bs (parts-of-label bs h .2)
 
 pub label-is-field : (bs : List ℕ) → isLabel bs ≡ true
