@@ -33,7 +33,7 @@ pub all-hold : (a b c : Bool) → a ≡ true → b ≡ true → c ≡ true → (
 all-hold a b c d e f = rw (d, e, f)
 
 -- a check that gave 0
-check-passed : (b : Bool) (n : ℕ) → refuseIf (not b) (suc n) ≡ 0 → b ≡ true
+pub check-passed : (b : Bool) (n : ℕ) → refuseIf (not b) (suc n) ≡ 0 → b ≡ true
 check-passed b n e = not-false b (refuse-none (not b) n e)
 
 -- three checks of one number are one check of three tests

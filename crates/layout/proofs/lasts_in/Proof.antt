@@ -7,10 +7,10 @@ use Prim.Native.Nat.{_-_}
 use native.Mathlib.Nat.{zero-add}
 use native.Mathlib.Omega.{arith}
 use lib.ListN.{length, take, drop, replicate}
+use Rattle.lists.proofs.Copies.{Copied, copied-none, copied-more, copied-length, copied-all}
 use Rattle.interval.specs.declared.time.Chronon.{Chronon}
 use Rattle.plan.specs.Plan.{mostPartitions}
 use Rattle.layout.specs.Layout.{minutes}
-use Rattle.layout.proofs.Words.{Copied, copied-none, copied-more, copied-length, copied-all}
 use Rattle.layout.proofs.Words.{length-minutes-at, minute-at}
 use Rattle.layout.proofs.lasts_in.Statement.{statement}
 use Rattle.layout.proofs.lasts_in.Tie as tie

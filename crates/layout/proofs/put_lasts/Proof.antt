@@ -5,10 +5,10 @@ use mathlib.Core.Path.{_≡_, refl, sym, _∙_}
 use Prim.Native.Nat.{_+_, _-_}
 use native.Mathlib.Omega.{arith}
 use lib.ListN.{length, length-map, List·getD-map}
+use Rattle.lists.proofs.Copies.{Copied, copied-none, copied-more, copied-length, copied-all}
 use Rattle.interval.specs.declared.time.Chronon.{Chronon}
 use Rattle.plan.specs.Plan.{mostPartitions, numbers}
 use Rattle.layout.specs.Layout.{planHead, planWords}
-use Rattle.layout.proofs.Words.{Copied, copied-none, copied-more, copied-length, copied-all}
 use Rattle.layout.proofs.put_lasts.Statement.{statement}
 use Rattle.layout.proofs.put_lasts.Tie as tie
 
