@@ -4,16 +4,16 @@
  * and memset only.
  *
  * A wall is three lent buffers of 64-bit words, the stores: store 1 holds drawings (outer), store 2 spots (inner),
- * store 3 rows. Every call takes the plan and is lent the stores. It answers with three words, and returns the
- * first of them.
+ * store 3 rows. Every call takes the plan and is lent the stores that it needs. It answers with three words, or with
+ * four where it says so, and returns the first of them.
  *
  * A slice argument is an address and a length in words. The address is not null and is aligned for uint64_t, the
  * length is what lies there, and a buffer that a call writes overlaps no other argument of that call. Nothing else
  * has to be checked before calling: every call answers for any words and any lengths. A refusal writes no word of
- * plan, stores or caches; a plan may lie in memory that cannot be written, but for an accepted recut.
+ * plan, stores, caches or report; a plan may lie in memory that cannot be written, but for an accepted recut.
  *
- * The answer's three words are written by every call, refused or not, that is lent exactly three; an answer of another
- * length is not written, and the call is refused. A plan of another length than named here is refused with 4: no other
+ * The answer's words are written by every call, refused or not, that is lent exactly as many as it answers with; an
+ * answer of another length is not written, and the call is refused. A plan of another length than named here is refused with 4: no other
  * check can be made. An answer or new last minutes of another length are refused with 4 too, after the plan's own
  * checks 1 to 3 and before all others, as the stores' lengths are.
  */
@@ -55,6 +55,16 @@ extern "C" {
 #define RUTHGARWY_ANSWER_EXAMINED 2
 
 /*
+ * The answer of ruthgarwy_requirements: the refusal number, then each side's need in tuples and the pairs that a sweep
+ * would compare, all three 0 on a refusal.
+ */
+#define RUTHGARWY_REQUIREMENTS_WORDS 4
+#define RUTHGARWY_REQUIREMENTS_NUMBER 0
+#define RUTHGARWY_REQUIREMENTS_OUTER 1
+#define RUTHGARWY_REQUIREMENTS_INNER 2
+#define RUTHGARWY_REQUIREMENTS_PAIRS 3
+
+/*
  * The words of a store, from the plan's numbers. A store is its lanes in order; a lane is one count word, then its
  * full capacity of records. A record of stores 1 and 2 is a tuple, four words: label number, item number, first
  * minute, last minute. A record of store 3 is a row, five words: label number, drawing number, spot number, first
@@ -68,8 +78,10 @@ extern "C" {
 #define RUTHGARWY_TUPLE_STORE_WORDS(lanes, tuples) ((size_t)(lanes) * (1 + RUTHGARWY_TUPLE_WORDS * (size_t)(tuples)))
 #define RUTHGARWY_ROW_STORE_WORDS(lanes, rows) ((size_t)(lanes) * (1 + RUTHGARWY_ROW_WORDS * (size_t)(rows)))
 
-/* The words of a cache that is large enough for every sweep under such a plan. */
+/* The words of a cache that is large enough for every sweep under such a plan; and of one that is just large enough for a
+ * need in tuples, as ruthgarwy_requirements tells it. */
 #define RUTHGARWY_CACHE_WORDS(lanes, tuples) (RUTHGARWY_TUPLE_WORDS * (size_t)(lanes) * (size_t)(tuples))
+#define RUTHGARWY_NEED_WORDS(need) (RUTHGARWY_TUPLE_WORDS * (size_t)(need))
 
 /* The sides: drawings, and spots. Every word but 1 stands for spots. */
 #define RUTHGARWY_OUTER 1
@@ -85,7 +97,7 @@ enum ruthgarwy_number {
     RUTHGARWY_LAST_MINUTES = 2,   /* plan: last minutes don't rise strictly or don't end at 99,999,999
                                      (also a recut's new ones, after 5) */
     RUTHGARWY_CAPACITY = 3,       /* plan: a capacity is out of its range */
-    RUTHGARWY_LENGTH = 4,         /* stores: a length isn't what the plan gives; a plan, an answer or new last
+    RUTHGARWY_LENGTH = 4,         /* stores, report: a length isn't what the plan gives; a plan, an answer or new last
                                      minutes are not of the length above */
     RUTHGARWY_UNSOUND = 5,        /* stores, not in open: a store is not sound */
     RUTHGARWY_LABEL = 6,          /* tuple: the label number is out of range (1 to 217,180,147,158) */
@@ -159,6 +171,21 @@ uint64_t ruthgarwy_repartition(uint64_t *plan, size_t plan_words,
                                const uint64_t *inner, size_t inner_words,
                                const uint64_t *rows, size_t rows_words,
                                uint64_t *answer, size_t answer_words);
+
+/*
+ * What a sweep will take: from stores 1 and 2, which it only reads, writes into the report, which has exactly one word for
+ * each lane of the plan, the rows that the lane would get, and answers each side's need in tuples and the pairs that a
+ * sweep would compare: four words, RUTHGARWY_REQUIREMENTS_WORDS. Can be refused with 1 to 5, of these two stores and the
+ * report. A sweep of the same plan and stores 1 and 2 that is past its own checks 1 to 5 is then refused with 14 exactly
+ * if a cache has fewer than RUTHGARWY_NEED_WORDS of its side's need, else with 10 exactly if a reported lane has more
+ * rows than the row capacity; accepted, its counts are the sum of the reported rows, and the same pairs. A reported lane
+ * may have more rows than the capacity: that refuses nothing here.
+ */
+uint64_t ruthgarwy_requirements(const uint64_t *plan, size_t plan_words,
+                                const uint64_t *outer, size_t outer_words,
+                                const uint64_t *inner, size_t inner_words,
+                                uint64_t *report, size_t report_words,
+                                uint64_t *answer, size_t answer_words);
 
 #ifdef __cplusplus
 }

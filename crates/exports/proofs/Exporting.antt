@@ -2,7 +2,7 @@
 -- Assumes nothing.
 use mathlib.Core.Bool.{true}
 use mathlib.Core.List.{List, _++_}
-use mathlib.Core.Path.{_≡_, sym, _∙_, ap, subst}
+use mathlib.Core.Path.{_≡_, refl, sym, _∙_, ap, subst}
 use Prim.Native.Nat.{ℕ}
 use lib.ListN.{length, take}
 use Rattle.lists.proofs.Choice.{pick-true}
@@ -18,9 +18,14 @@ use Rattle.join.specs.Changes.{Changed}
 use Rattle.join.specs.Sweeps.{Swept}
 use Rattle.join.specs.Repartitioning.{Repartitioned}
 use Rattle.join.specs.declared.Kind.{Kind}
-use Rattle.layout.specs.Layout.{planHead, planWords, planIn, wordsOf, told, refusal, answerFits}
+use Rattle.requirements.specs.Requirements.{RequirementsOf}
+use Rattle.requirements.specs.declared.Requirements.{Requirements}
+use Rattle.layout.specs.Layout.{planHead, planWords, planIn, wordsOf, told, refusal, answerFits, requirementsFit}
+use Rattle.layout.specs.Layout.{lentNumber}
+use Rattle.layout.proofs.Lent.{lent-fits}
 use Rattle.layout.proofs.Words.{plan-put-cuts}
-use Rattle.exports.specs.Exports.{Exported, ChangeExported}
+use Rattle.exports.specs.Exports.{Exported, ChangeExported, requirementsIn, noRequirements}
+use Rattle.exports.specs.Exports.{RequirementsExported}
 
 -- ---- the call
 
@@ -31,19 +36,45 @@ said-refusal a n s = λ k. record { number = s .0 k; changed = s .1 .0 k; examin
 module _ {Kept : Type 0} {Done : Answer → Type 0} (lent : ℕ) (buffer : List ℕ) where
   -- a length is wrong: the answer says so, where it has three words
   pub exported-refused : (buffer′ : List ℕ) (m n : ℕ) (a : Answer) → m ≡ lent → (m ≡ 0 → ⊥) → Says a m
-      → (buffer′ ≡ told buffer a) × (n ≡ a .number) → Kept → Exported lent buffer buffer′ n Kept Done
+      → (buffer′ ≡ told buffer (wordsOf a)) × (n ≡ a .number) → Kept
+      → Exported wordsOf refusal lent buffer buffer′ n Kept Done
   exported-refused buffer′ m n a e ne s t k = record {
     refused = λ z.
-        (t .1 ∙ s .0 ∙ e, t .0 ∙ ap (λ (r : Answer). told buffer r) (said-refusal a m s ∙ ap refusal e), k);
+        (t .1 ∙ s .0 ∙ e, t .0 ∙ ap (λ (r : Answer). told buffer (wordsOf r)) (said-refusal a m s ∙ ap refusal e), k);
     called = λ z. absurd (ne (e ∙ z));
   }
 
   -- they are right: a is the answer
   pub exported-called : (buffer′ : List ℕ) (n : ℕ) (a : Answer) → lent ≡ 0 → answerFits buffer ≡ true
-      → (buffer′ ≡ told buffer a) × (n ≡ a .number) → Done a → Exported lent buffer buffer′ n Kept Done
+      → (buffer′ ≡ told buffer (wordsOf a)) × (n ≡ a .number) → Done a
+      → Exported wordsOf refusal lent buffer buffer′ n Kept Done
   exported-called buffer′ n a e f t done = record {
     refused = λ ne. absurd (ne e);
     called = λ z. (a, t .0 ∙ pick-true (answerFits buffer) (wordsOf a) buffer f, t .1, done);
+  }
+
+-- the same of what a sweep requires, told in four words
+module _ (plan outer inner report answer : List ℕ) where
+  pub requirements-refused : (answer′ : List ℕ) (m n : ℕ) → m ≡ lentNumber plan (requirementsFit answer)
+      → (m ≡ 0 → ⊥) → (answer′ ≡ told answer (requirementsIn (noRequirements m))) × (n ≡ m)
+      → RequirementsExported plan outer inner report answer report answer′ n
+  requirements-refused answer′ m n e ne t = record {
+    refused = λ z. (t .1 ∙ e, t .0 ∙ ap (λ (k : ℕ). told answer (requirementsIn (noRequirements k))) e, refl);
+    called = λ z. absurd (ne (e ∙ z));
+  }
+
+  pub requirements-called : (report′ answer′ : List ℕ) (p : Partitioning) (n : ℕ) (r : Requirements)
+      → lentNumber plan (requirementsFit answer) ≡ 0 → p ≡ planIn plan
+      → (answer′ ≡ told answer (requirementsIn r)) × (n ≡ r .number) → RequirementsOf p outer inner report report′ r
+      → RequirementsExported plan outer inner report answer report′ answer′ n
+  requirements-called report′ answer′ p n r e f t done = record {
+    refused = λ ne. absurd (ne e);
+    called = λ z. (
+      r,
+      t .0 ∙ pick-true (requirementsFit answer) (requirementsIn r) answer (lent-fits plan (requirementsFit answer) e),
+      t .1,
+      subst (λ v. RequirementsOf v outer inner report report′ r) f done,
+    );
   }
 
 -- ---- what a call promises of plan, side and tuple, it promises of what the words say, which is the same

@@ -2,17 +2,20 @@
 //
 // A plan is 67 words: the lane count, the tuple capacity, the row capacity, then 64 places for last minutes. A tuple is
 // handed over as four words, its side as one: 1 for drawings, anything else for spots. An answer is three words: the
-// refusal number and the two counts; the number is also returned. A plan of another length says nothing and is refused
-// with 4; an answer or new last minutes of another length are refused with 4 after the plan's own numbers, 1 to 3. The
-// three words are written by every call that is lent three; every other buffer only where a call is accepted.
+// refusal number and the two counts; what a sweep requires is four: the number, each side's need and the pairs. The
+// number is also returned. A plan of another length says nothing and is refused with 4; an answer or new last minutes
+// of another length are refused with 4 after the plan's own numbers, 1 to 3. The answer's words are written by every
+// call that is lent as many; every other buffer only where a call is accepted.
 // Nothing has to be checked before calling; each slice is an address and a length in words.
 ghost use Rattle.interval.specs.Tuple.{tuple};
 ghost use Rattle.join.specs.declared.Kind.the-variants.{Insert, Delete};
 ghost use Rattle.layout.specs.Layout.{sideOf};
 ghost use Rattle.exports.specs.Exports.{OpenExported, ChangeExported, SweepExported, CutsExported};
+ghost use Rattle.exports.specs.Exports.{RequirementsExported};
 use interval::tuple::Tuple;
 use join::Kind;
 use layout::ANSWER_WORDS;
+use layout::REQUIREMENTS_WORDS;
 use plan::PLACES;
 use rows::Side;
 
@@ -178,4 +181,26 @@ pub extern "C" fn ruthgarwy_repartition(
     let lasts = next.lasts;
     layout::put_lasts(lasts, plan);
     layout::tell(a, answer)
+}
+
+// What a sweep will take.
+#[no_mangle]
+pub extern "C" fn ruthgarwy_requirements(
+    plan: &[u64],
+    outer: &[u64],
+    inner: &[u64],
+    report: &mut [u64],
+    answer: &mut [u64],
+) -> u64
+    ensures { λ r. ⌜ RequirementsExported (now (plan .entry))
+        (now (outer .entry)) (now (inner .entry)) (now (report .entry)) (now (answer .entry))
+        (now (report .exit)) (now (answer .exit)) r ⌝ }
+{
+    let refusal = layout::lent_number(plan, answer.len() == REQUIREMENTS_WORDS);
+    if refusal != 0 {
+        return layout::tell_requirements(refusal, 0, 0, 0, answer);
+    }
+    let p = layout::plan_in(plan);
+    let r = requirements::of_sweep(p, outer, inner, report);
+    layout::tell_requirements(r.number, r.outer, r.inner, r.pairs, answer)
 }

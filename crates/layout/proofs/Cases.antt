@@ -9,7 +9,7 @@ use lib.ListN.{length, replicate}
 use Rattle.lists.specs.Choice.{firstOf}
 use Rattle.plan.specs.Plan.{mostPartitions, cutsOf, cover, planNumber, numbers}
 use Rattle.rows.specs.declared.Side.the-variants.{Outer, Inner}
-use Rattle.layout.specs.Layout.{planIn, sideOf, told, refusal, lentNumber}
+use Rattle.layout.specs.Layout.{planIn, wordsOf, sideOf, told, refusal, lentNumber}
 
 -- a plan's words: lanes, tuples, rows, and last minutes in 64 places; those beyond hold 7
 abbrev words : ℕ → ℕ → ℕ → List ℕ → List ℕ
@@ -56,6 +56,6 @@ lengths-hold = (refl, (refl, (refl, (refl, (refl, (refl, (refl, (refl, (refl, (r
 abbrev sevens : ℕ → List ℕ
 sevens n = replicate n 7
 
-told-holds : (told (sevens 3) (refusal 4) ≡ 4 ∷ (0 ∷ (0 ∷ []))) × (told (sevens 2) (refusal 4) ≡ sevens 2)
-    × (told (sevens 4) (refusal 4) ≡ sevens 4)
+told-holds : (told (sevens 3) (wordsOf (refusal 4)) ≡ 4 ∷ (0 ∷ (0 ∷ [])))
+    × (told (sevens 2) (wordsOf (refusal 4)) ≡ sevens 2) × (told (sevens 4) (wordsOf (refusal 4)) ≡ sevens 4)
 told-holds = (refl, refl, refl)

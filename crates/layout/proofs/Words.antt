@@ -1,18 +1,32 @@
--- Laws of the layout: an answer's three words; last minutes as words and back; the plan that words say, and after last
+-- Laws of the layout: an answer's three or four words; last minutes as words and back; the plan that words say, and after last
 -- minutes are put into them; that nothing of a plan's words is lost.
 -- Assumes nothing.
 use mathlib.Core.List.{List, [], _∷_, _++_}
 use mathlib.Core.Path.{_≡_, refl, sym, _∙_, ap}
 use Prim.Native.Nat.{ℕ, _+_, _≤_, _<_}
 use native.Mathlib.Omega.{arith}
+use lib.Dec.{eqb}
 use lib.ListN.{length, getD, take, drop, set, length-take, length-drop, length-append, length-map, List·getD-map}
 use lib.Seq.{take-all, getD-take, getD-drop}
+use borrow.Author.Tests.{eq-eqb, ne-eqb}
+use Rattle.lists.proofs.Choice.{pick-true, pick-false}
 use Rattle.interval.specs.declared.time.Chronon.{Chronon}
 use Rattle.plan.specs.Plan.{mostPartitions, numbers, withCuts}
 use Rattle.plan.specs.declared.Partitioning.{Partitioning}
-use Rattle.layout.specs.Layout.{planHead, planWords, answerWords, minutes, planIn}
+use Rattle.layout.specs.Layout.{planHead, planWords, answerWords, requirementsWords, minutes, planIn, told}
 
 -- ---- an answer's words
+
+-- a buffer of another length stays as it was, one of theirs holds the words
+pub told-other : (buffer ws : List ℕ) → (length buffer ≡ length ws → ⊥) → buffer ≡ told buffer ws
+told-other buffer ws ne =
+    sym (pick-false (eqb (length buffer) (length ws)) ws buffer (ne-eqb (length buffer) (length ws) ne))
+
+pub told-whole : (buffer ws : List ℕ) → length buffer ≡ length ws → ws ≡ told buffer ws
+told-whole buffer ws e =
+    sym (pick-true (eqb (length buffer) (length ws)) ws buffer (eq-eqb (length buffer) (length ws) e))
+
+-- three stores, and four, are all the words
 
 pub three-told : (ws : List ℕ) (x y z : ℕ) → length ws ≡ answerWords
     → set (set (set ws 0 x) 1 y) 2 z ≡ x ∷ (y ∷ (z ∷ []))
@@ -21,6 +35,11 @@ three-told (a ∷ []) x y z e = absurd (omega arith)
 three-told (a ∷ (b ∷ [])) x y z e = absurd (omega arith)
 three-told (a ∷ (b ∷ (c ∷ []))) x y z e = refl
 three-told (a ∷ (b ∷ (c ∷ (d ∷ ws)))) x y z e = absurd (omega arith)
+
+pub four-told : (ws : List ℕ) (w x y z : ℕ) → length ws ≡ requirementsWords
+    → set (set (set (set ws 0 w) 1 x) 2 y) 3 z ≡ w ∷ (x ∷ (y ∷ (z ∷ [])))
+four-told [] w x y z e = absurd (omega arith)
+four-told (a ∷ ws) w x y z e = ap (λ (vs : List ℕ). w ∷ vs) (three-told ws x y z (omega arith))
 
 -- ---- last minutes as words
 

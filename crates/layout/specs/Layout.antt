@@ -1,4 +1,4 @@
--- How a plan, a side and an answer lie in a host's words, and the number for the lengths of what a call is lent beside
+-- How a plan, a side and the answers lie in a host's words, and the number for the lengths of what a call is lent beside
 -- the stores.
 use mathlib.Core.Bool.{Bool}
 use mathlib.Core.List.{List, [], _∷_, map}
@@ -20,9 +20,12 @@ planHead = 3
 abbrev pub planWords : ℕ
 planWords = planHead + mostPartitions
 
--- the words of an answer
+-- the words of an answer: of most calls, and of what a sweep requires
 abbrev pub answerWords : ℕ
 answerWords = 3
+
+abbrev pub requirementsWords : ℕ
+requirementsWords = 4
 
 -- last minutes as words
 abbrev pub minutes : List ℕ → List Chronon
@@ -49,9 +52,12 @@ sideOf n = pick (eqb n 1) Outer Inner
 abbrev pub answerFits : List ℕ → Bool
 answerFits buffer = eqb (length buffer) answerWords
 
--- the answer's buffer after a call that answers a: its three words, where three are lent
-abbrev pub told : List ℕ → Answer → List ℕ
-told buffer a = pick (answerFits buffer) (wordsOf a) buffer
+abbrev pub requirementsFit : List ℕ → Bool
+requirementsFit buffer = eqb (length buffer) requirementsWords
+
+-- the answer's buffer after a call that answers in these words: they, where as many are lent
+abbrev pub told : List ℕ → List ℕ → List ℕ
+told buffer ws = pick (eqb (length buffer) (length ws)) ws buffer
 
 -- a refusal's answer: both counts are 0
 abbrev pub refusal : ℕ → Answer

@@ -1,14 +1,14 @@
-// How a plan, a tuple with its side and an answer lie in a host's words, and the number that a call gets for the
+// How a plan, a tuple with its side and the answers lie in a host's words, and the number that a call gets for the
 // lengths of what it is lent beside the stores. include/ruthgarwy.h has it for C; the definitions are in
 // specs/Layout.antt.
 // A reader or writer of a plan asks for its length by a `requires`; a call tests it first.
-ghost use mathlib.Core.List.{_++_};
+ghost use mathlib.Core.List.{[], _∷_, _++_};
 ghost use mathlib.Core.Path.{_≡_};
 ghost use Prim.Native.Nat.{_+_, _≤_};
 ghost use lib.ListN.{length, take, drop};
 ghost use Rattle.interval.specs.Tuple.{tuple};
 ghost use Rattle.plan.specs.Plan.{mostPartitions, numbers};
-ghost use Rattle.layout.specs.Layout.{planHead, planWords, minutes, planIn, told, sideOf, lentNumber};
+ghost use Rattle.layout.specs.Layout.{planHead, planWords, minutes, planIn, wordsOf, told, sideOf, lentNumber};
 use checks::Answer;
 use interval::time::Chronon;
 use interval::time::Interval;
@@ -22,8 +22,10 @@ const PLAN_HEAD: usize = 3;
 
 const PLAN_WORDS: usize = PLAN_HEAD + PLACES;
 
-// The words of an answer.
+// The words of an answer: of most calls, and of what a sweep requires.
 pub const ANSWER_WORDS: usize = 3;
+
+pub const REQUIREMENTS_WORDS: usize = 4;
 
 // A plan's last minutes, from a place of a run of words on.
 pub fn lasts_in(words: &[u64], from: usize) -> [Chronon; PLACES]
@@ -77,7 +79,7 @@ pub fn tuple_of(label: u64, item: u64, first: u64, last: u64) -> Tuple
 
 // Writes an answer's three words, where three are lent; answers its number.
 pub fn tell(a: Answer, answer: &mut [u64]) -> u64
-    ensures { λ r. ⌜ (now (answer .exit) ≡ told (now (answer .entry)) a) × (r ≡ a .number) ⌝ }
+    ensures { λ r. ⌜ (now (answer .exit) ≡ told (now (answer .entry)) (wordsOf a)) × (r ≡ a .number) ⌝ }
 {
     if answer.len() != ANSWER_WORDS {
         return a.number;
@@ -86,6 +88,21 @@ pub fn tell(a: Answer, answer: &mut [u64]) -> u64
     answer[1] = a.changed;
     answer[2] = a.examined;
     a.number
+}
+
+// Writes what a sweep requires, where four words are lent; answers its number.
+pub fn tell_requirements(number: u64, outer: u64, inner: u64, pairs: u64, answer: &mut [u64]) -> u64
+    ensures { λ r. ⌜ (now (answer .exit) ≡ told (now (answer .entry)) (number ∷ (outer ∷ (inner ∷ (pairs ∷ [])))))
+        × (r ≡ number) ⌝ }
+{
+    if answer.len() != REQUIREMENTS_WORDS {
+        return number;
+    }
+    answer[0] = number;
+    answer[1] = outer;
+    answer[2] = inner;
+    answer[3] = pairs;
+    number
 }
 
 // The number for lengths, given whether those of the other buffers are right: that of the plan first.

@@ -1,12 +1,8 @@
 -- `layout::tell` meets its contract: its three stores are all the words of an answer's buffer of three.
 -- Assumes nothing.
-use mathlib.Core.Path.{refl, sym, _∙_}
-use lib.Dec.{eqb}
-use lib.ListN.{length}
-use borrow.Author.Tests.{eq-eqb, ne-eqb}
-use Rattle.lists.proofs.Choice.{pick-true, pick-false}
-use Rattle.layout.specs.Layout.{answerWords, wordsOf}
-use Rattle.layout.proofs.Words.{three-told}
+use mathlib.Core.Path.{refl, _∙_}
+use Rattle.layout.specs.Layout.{wordsOf}
+use Rattle.layout.proofs.Words.{told-other, told-whole, three-told}
 use borrow.Author.Needs.{needs}
 use Rattle.layout.proofs.tell.Statement.{statement}
 use Rattle.layout.proofs.tell.Tie as tie
@@ -14,9 +10,7 @@ use Rattle.layout.proofs.tell.Tie as tie
 returns : tie.Need-returns
 returns c =
     let a = c .before .args in
-    let ws = a .answer .now in
-    let other = ne-eqb (length ws) answerWords (c .if1 .taken) in
-    (sym (pick-false (eqb (length ws) answerWords) (wordsOf (a .a)) ws other), refl)
+    (told-other (a .answer .now) (wordsOf (a .a)) (c .if1 .taken), refl)
 
 slice-write-answer : tie.Need-slice-write-answer
 slice-write-answer c = search needs
@@ -34,13 +28,15 @@ returns-2 : tie.Need-returns-2
 returns-2 c =
     let a = c .before .args in
     let ws = a .answer .now in
-    let three = c .if1 .left in (
-      three-told ws _ _ _ three
-          ∙ sym (pick-true (eqb (length ws) answerWords) (wordsOf (a .a)) ws (eq-eqb (length ws) answerWords three)),
-      refl,
-    )
+    (three-told ws _ _ _ (c .if1 .left) ∙ told-whole ws (wordsOf (a .a)) (c .if1 .left), refl)
 
 pub tell-spec : {M : Type 1} → statement M
 tell-spec =
     tie.close
-    (tie.spec returns slice-write-answer slice-write-answer-2 slice-write-answer-3 same-length returns-2)
+    (tie.spec
+    returns
+    slice-write-answer
+    slice-write-answer-2
+    slice-write-answer-3
+    same-length
+    returns-2)
