@@ -1,4 +1,4 @@
--- The laws of the call, what it says of a sweep, and closed cases.
+-- Closed cases of the definitions, the laws of the call, and what it says of a sweep.
+pub mod Cases
 pub mod Calls
 pub mod Foreseen
-pub mod Cases
