@@ -13,9 +13,9 @@
  * plan, stores, caches or report; a plan may lie in memory that cannot be written, but for an accepted recut.
  *
  * The answer's words are written by every call, refused or not, that is lent exactly as many as it answers with; an
- * answer of another length is not written, and the call is refused. A plan of another length than named here is refused with 4: no other
- * check can be made. An answer or new last minutes of another length are refused with 4 too, after the plan's own
- * checks 1 to 3 and before all others, as the stores' lengths are.
+ * answer of another length is not written, and the call is refused. A plan of another length than named here is
+ * refused with 4: no other check can be made. An answer or new last minutes of another length are refused with 4 too,
+ * after the plan's own checks 1 to 3 and before all others, as the stores' lengths are.
  */
 #ifndef RUTHGARWY_H
 #define RUTHGARWY_H
@@ -78,8 +78,10 @@ extern "C" {
 #define RUTHGARWY_TUPLE_STORE_WORDS(lanes, tuples) ((size_t)(lanes) * (1 + RUTHGARWY_TUPLE_WORDS * (size_t)(tuples)))
 #define RUTHGARWY_ROW_STORE_WORDS(lanes, rows) ((size_t)(lanes) * (1 + RUTHGARWY_ROW_WORDS * (size_t)(rows)))
 
-/* The words of a cache that is large enough for every sweep under such a plan; and of one that is just large enough for a
- * need in tuples, as ruthgarwy_requirements tells it. */
+/*
+ * The words of a cache that is large enough for every sweep under such a plan, and of one that is just large enough for
+ * a need in tuples, which ruthgarwy_requirements tells.
+ */
 #define RUTHGARWY_CACHE_WORDS(lanes, tuples) (RUTHGARWY_TUPLE_WORDS * (size_t)(lanes) * (size_t)(tuples))
 #define RUTHGARWY_NEED_WORDS(need) (RUTHGARWY_TUPLE_WORDS * (size_t)(need))
 
@@ -148,9 +150,10 @@ uint64_t ruthgarwy_delete(const uint64_t *plan, size_t plan_words,
 
 /*
  * Sweep: writes store 3 afresh from stores 1 and 2, which it only reads, with two lent caches: outer_cache for
- * drawings, inner_cache for spots. A side's need is the largest number, over lanes i, of that side's tuples stored above lane i
- * whose first minute is at or before lane i's last; its cache has at least 4 words for each. After an accepted
- * sweep the caches' contents are free. Can be refused with 1 to 5, 10 and 14. Counts: rows written; pairs compared.
+ * drawings, inner_cache for spots. A side's need is the largest number, over lanes i, of that side's tuples stored
+ * above lane i whose first minute is at or before lane i's last; its cache has at least 4 words for each. After an
+ * accepted sweep the caches' contents are free. Can be refused with 1 to 5, 10 and 14. Counts: rows written; pairs
+ * compared.
  */
 uint64_t ruthgarwy_sweep(const uint64_t *plan, size_t plan_words,
                          const uint64_t *outer, size_t outer_words,
@@ -173,13 +176,14 @@ uint64_t ruthgarwy_repartition(uint64_t *plan, size_t plan_words,
                                uint64_t *answer, size_t answer_words);
 
 /*
- * What a sweep will take: from stores 1 and 2, which it only reads, writes into the report, which has exactly one word for
- * each lane of the plan, the rows that the lane would get, and answers each side's need in tuples and the pairs that a
- * sweep would compare: four words, RUTHGARWY_REQUIREMENTS_WORDS. Can be refused with 1 to 5, of these two stores and the
- * report. A sweep of the same plan and stores 1 and 2 that is past its own checks 1 to 5 is then refused with 14 exactly
- * if a cache has fewer than RUTHGARWY_NEED_WORDS of its side's need, else with 10 exactly if a reported lane has more
- * rows than the row capacity; accepted, its counts are the sum of the reported rows, and the same pairs. A reported lane
- * may have more rows than the capacity: that refuses nothing here.
+ * What a sweep will take: from stores 1 and 2, which it only reads. The report has exactly one word for each lane of
+ * the plan, and gets the rows that a sweep would put into that lane. The answer is four words: number, each side's need
+ * in tuples, the pairs that a sweep would compare. Can be refused with 1 to 5, asked of these two stores and the report.
+ * The row capacity refuses nothing here: a reported lane may pass it.
+ *
+ * A sweep of the same plan and stores 1 and 2 that is past its own checks 1 to 5 is refused with 14 exactly if a cache
+ * has fewer words than RUTHGARWY_NEED_WORDS of its side's need, else with 10 exactly if a reported lane passes the row
+ * capacity. Accepted, its counts are the sum of the reported rows, and the same pairs.
  */
 uint64_t ruthgarwy_requirements(const uint64_t *plan, size_t plan_words,
                                 const uint64_t *outer, size_t outer_words,
