@@ -20,9 +20,9 @@ use Rattle.requirements.specs.declared.Requirements.{Requirements}
 use Rattle.layout.specs.Layout.{planWords, minutes, planIn, wordsOf, told, refusal, answerFits, requirementsFit}
 use Rattle.layout.specs.Layout.{lentNumber}
 
--- a call that was lent an answer buffer, left buffer′, and returned n, where `lent` is the number for lengths. An answer
--- lies in these words, the number first; `none` is that of a refusal. Kept: every other buffer is as it was; Done a:
--- what the call promises of its answer a
+-- a call that was lent an answer buffer, left buffer′, and returned n, where `lent` is the number for lengths. An
+-- answer lies in these words, its number first; `none` is that of a refusal. Kept: every other buffer is as it was;
+-- Done a: what the call promises of its answer a
 pub record Exported {A : Type 0} (words : A → List ℕ) (none : ℕ → A) (lent : ℕ) (buffer buffer′ : List ℕ) (n : ℕ)
     (Kept : Type 0) (Done : A → Type 0) : Type 0 where
   pub refused : (lent ≡ 0 → ⊥) → (n ≡ lent) × (buffer′ ≡ told buffer (words (none lent))) × Kept
@@ -47,7 +47,8 @@ ChangeExported kind plan side t outer inner rows answer outer′ inner′ rows�
 -- c and d: the two caches
 abbrev pub SweepExported : (plan outer inner rows c d answer rows′ c′ d′ answer′ : List ℕ) → ℕ → Type 0
 SweepExported plan outer inner rows c d answer rows′ c′ d′ answer′ n =
-    Exported wordsOf refusal (lentNumber plan (answerFits answer)) answer answer′ n ((rows′ ≡ rows) × (c′ ≡ c) × (d′ ≡ d))
+    Exported wordsOf refusal (lentNumber plan (answerFits answer)) answer answer′ n
+    ((rows′ ≡ rows) × (c′ ≡ c) × (d′ ≡ d))
     (λ a. Swept (planIn plan) (stores outer inner rows) c d (stores outer inner rows′) c′ d′ a)
 
 -- a recut that was called: its own promise, of the plan that the words say after it; refused, it leaves them as they
@@ -59,7 +60,8 @@ pub record CutsPut (plan cuts plan′ : List ℕ) (s : Stores) (a : Answer) : Ty
 
 abbrev pub CutsExported : (plan cuts outer inner rows answer plan′ answer′ : List ℕ) → ℕ → Type 0
 CutsExported plan cuts outer inner rows answer plan′ answer′ n =
-    Exported wordsOf refusal (lentNumber plan (answerFits answer && eqb (length cuts) mostPartitions)) answer answer′ n (plan′ ≡ plan)
+    Exported wordsOf refusal (lentNumber plan (answerFits answer && eqb (length cuts) mostPartitions)) answer answer′ n
+    (plan′ ≡ plan)
     (λ a. CutsPut plan cuts plan′ (stores outer inner rows) a)
 
 -- what a sweep requires in words: number, each side's need, pairs; and of a refusal

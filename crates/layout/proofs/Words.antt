@@ -1,5 +1,5 @@
--- Laws of the layout: an answer's three or four words; last minutes as words and back; the plan that words say, and after last
--- minutes are put into them; that nothing of a plan's words is lost.
+-- Laws of the layout: an answer's three or four words; last minutes as words and back; the plan that words say, and
+-- after last minutes are put into them; that nothing of a plan's words is lost.
 -- Assumes nothing.
 use mathlib.Core.List.{List, [], _∷_, _++_}
 use mathlib.Core.Path.{_≡_, refl, sym, _∙_, ap}

@@ -1,5 +1,5 @@
--- How a plan, a side and the answers lie in a host's words, and the number for the lengths of what a call is lent beside
--- the stores.
+-- How a plan, a side and the answers lie in a host's words, and the number for the lengths of what a call is lent
+-- beside the stores.
 use mathlib.Core.Bool.{Bool}
 use mathlib.Core.List.{List, [], _∷_, map}
 use Prim.Native.Nat.{ℕ, _+_}

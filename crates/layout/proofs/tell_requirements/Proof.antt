@@ -31,7 +31,8 @@ returns-2 : tie.Need-returns-2
 returns-2 c =
     let a = c .before .args in
     let ws = a .answer .now in
-    (four-told ws _ _ _ _ (c .if1 .left) ∙ told-whole ws (a .number ∷ (a .outer ∷ (a .inner ∷ (a .pairs ∷ [])))) (c .if1 .left), refl)
+    let told = a .number ∷ (a .outer ∷ (a .inner ∷ (a .pairs ∷ []))) in
+    (four-told ws _ _ _ _ (c .if1 .left) ∙ told-whole ws told (c .if1 .left), refl)
 
 pub tell-requirements-spec : {M : Type 1} → statement M
 tell-requirements-spec =
