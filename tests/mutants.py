@@ -343,14 +343,14 @@ WALL = [
     ('wall/channel.rt', 'write_all(STDERR_FILENO, &line[..n]);', 'write_all(STDOUT_FILENO, &line[..n]);'),
     # the text
     ('stream/lib.rt', 'let mut end = lines::place_of(part, LINE_END);', 'let mut end = lines::place_of(part, 13);'),
-    ('stream/lib.rt', 'if number == 0 {', 'if number != 0 {'),
-    ('stream/lib.rt', 'put_refusal(out, at, line, number)', 'put_refusal(out, at, number, line)'),
-    ('stream/lib.rt', 'b"rows,0\\n"', 'b"rows,9\\n"'),
+    ('refusal_text/lib.rt', 'if number == 0 {', 'if number != 0 {'),
+    ('refusal_text/lib.rt', 'put_refusal(out, at, line, number)', 'put_refusal(out, at, number, line)'),
+    ('text_end/lib.rt', 'b"rows,0\\n"', 'b"rows,9\\n"'),
     ('stream/lib.rt', 'put_answer(out, at, lines, stepped.number)', 'put_answer(out, at, s.lines, stepped.number)'),
     ('stream/lib.rt', 'let reading = keep(read, &part[from..]);', 'let reading = keep(read, &part[0..]);'),
     ('stream/lib.rt', 'let reading = keep(read, &part[from..]);', 'let reading = read;'),
-    ('stream/lib.rt', 'put_refusal(rest, 0, line, lines::MALFORMED)', 'put_refusal(rest, 0, line, 16)'),
-    ('stream/lib.rt', 'if s.kept == 0 {', 'if true {'),
+    ('text_end/lib.rt', 'put_refusal(rest, 0, line, lines::MALFORMED)', 'put_refusal(rest, 0, line, 16)'),
+    ('text_end/lib.rt', 'if kept == 0 {', 'if true {'),
 ]
 
 STAND_INS = '''

@@ -20,11 +20,11 @@ use Rattle.rows.specs.Join.{rowsOfPair, joinOf}
 use Rattle.history.specs.Answering.{partitionFull, rowsPass, insertAnswer, deleteAnswer}
 use Rattle.lines.specs.Fields.{isNumber, valueOf, digitsOf}
 use Rattle.lines.specs.Line.{laneOf, changeOf, worded, formOf, lineOf}
+use Rattle.refusal_text.specs.Refusals.{refusalLine, answerText, unfinishedText}
 use Rattle.report.specs.Order.{before}
 use Rattle.report.specs.Text.{rowLine, countLine}
 use Rattle.session.specs.Session.{badLane, laneCheck}
 use Rattle.transcript.specs.Rows.{putRow, sortRows, laneLines, printedRows}
-use Rattle.stream.specs.Refusals.{refusalLine, answerText, unfinishedText}
 use Rattle.program_text.specs.Text.{after, reportText, textOfInput}
 
 -- ---- how a case is written

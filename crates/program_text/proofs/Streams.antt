@@ -18,24 +18,22 @@ use Rattle.history.proofs.Kept.{Kept}
 use Rattle.lines.specs.Line.{lineOf, inCapitals}
 use Rattle.lines.specs.declared.Line.{Line}
 use Rattle.lines.proofs.Printed.{capitals-read}
+use Rattle.refusal_text.specs.Refusals.{refusalRoom, lastLine, lineCount, refusals, unfinishedText}
+use Rattle.refusal_text.proofs.Refusals.{unfinished-length, count-append, refusals-append}
 use Rattle.report.specs.Text.{countLine}
 use Rattle.report.specs.Report.{textRoom, reportNumber}
 use Rattle.session.specs.Session.{wallRowsMost, EightPartitions, fresh, planOf, usedRows, wallOf}
 use Rattle.session.specs.declared.Session.{Session}
+use Rattle.text_end.specs.declared.Finished.{Finished}
 use Rattle.transcript.specs.Rows.{printedRows}
 use Rattle.transcript.proofs.Reported.{report-accepted}
 use Rattle.transcript.proofs.Sessions.{rows-printed}
 use Rattle.stream.specs.Input.{finishedLines, unfinished, valuesOf, valuesAfter, restAfter}
-use Rattle.stream.specs.Refusals.{lastLine, lineCount, refusals, unfinishedText}
-use Rattle.stream.specs.Taking.{Steps, none, then, keptMost, keptBytes, refusalRoom, keptAfter}
-use Rattle.stream.specs.Taking.{PartTaken, TakenBy}
+use Rattle.stream.specs.Taking.{Steps, none, then, keptMost, keptBytes, keptAfter, PartTaken, TakenBy}
 use Rattle.stream.specs.Finishing.{restText, finishRoom, finishNumber, ReportAfter, NoReport, FinishedBy}
 use Rattle.stream.specs.declared.Reading.{Reading}
 use Rattle.stream.specs.declared.Taken.{Taken}
-use Rattle.stream.specs.declared.Finished.{Finished}
 use Rattle.stream.proofs.Cuts.{cut-rest, cut-values, rest-none, kept-values, kept-rest, rest-kept}
-use Rattle.stream.proofs.Cuts.{count-append, refusals-append}
-use Rattle.stream.proofs.Refusals.{unfinished-length}
 use Rattle.stream.proofs.Takes.{take-whole}
 use Rattle.program_text.specs.Text.{State, begun, machineOf, after, numbersOf, stateAfter, answerTo}
 use Rattle.program_text.specs.Text.{reportText, textOfLines, textOfInput}

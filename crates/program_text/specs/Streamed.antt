@@ -9,14 +9,14 @@ use lib.ListN.{length, take}
 use Rattle.lists.specs.Members.{any}
 use Rattle.checks.specs.Stores.{Stores}
 use Rattle.lines.specs.Line.{inCapitals}
+use Rattle.refusal_text.specs.Refusals.{refusalRoom, lastLine, lineCount, refusals, unfinishedText}
 use Rattle.session.specs.Session.{EightPartitions}
+use Rattle.text_end.specs.declared.Finished.{Finished}
 use Rattle.stream.specs.Input.{isEnd, finishedLines, unfinished, valuesOf, valuesAfter, restAfter}
-use Rattle.stream.specs.Refusals.{lastLine, lineCount, refusals, unfinishedText}
-use Rattle.stream.specs.Taking.{keptMost, atStart, refusalRoom, TakenBy}
+use Rattle.stream.specs.Taking.{keptMost, atStart, TakenBy}
 use Rattle.stream.specs.Finishing.{finishRoom, FinishedBy}
 use Rattle.stream.specs.declared.Reading.{Reading}
 use Rattle.stream.specs.declared.Taken.{Taken}
-use Rattle.stream.specs.declared.Finished.{Finished}
 use Rattle.program_text.specs.Text.{begun, numbersOf, textOfInput}
 
 -- `start`, then `take` of one part after the other, as its own promise has it: parts of any size, empty ones too, on

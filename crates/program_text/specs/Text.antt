@@ -1,6 +1,6 @@
 -- What the program `wall` prints, as a function of the bytes of its input (document 01, "Lines and the program"): no
--- word of stores or of parts, and of the code only its types. The lines of an input and the text of refusals are in
--- `stream` (specs Input and Refusals), what a wall answers to a change in `history` (Answering), the text of rows in
+-- word of stores or of parts, and of the code only its types. The lines of an input are in `stream` (Input), the text
+-- of refusals in `refusal_text`, what a wall answers to a change in `history` (Answering), the text of rows in
 -- `transcript` (Rows).
 -- Closed cases are in proofs/Cases.antt, document 01's example first.
 use mathlib.Core.Bool.{not}
@@ -19,13 +19,13 @@ use Rattle.history.specs.Answering.{insertAnswer, deleteAnswer}
 use Rattle.lines.specs.Line.{lineNumber}
 use Rattle.lines.specs.declared.Line.{Line}
 use Rattle.lines.specs.declared.Line.the-variants.{Lane, Change, Malformed}
+use Rattle.refusal_text.specs.Refusals.{lineCount, refusals, unfinishedText}
 use Rattle.report.specs.Text.{countLine}
 use Rattle.session.specs.Session.{fresh, planOf, withLane, laneCheck, kindOf, sideOf}
 use Rattle.session.specs.declared.Session.{Session}
 use Rattle.transcript.specs.Transcript.{callOf}
 use Rattle.transcript.specs.Rows.{printedRows}
 use Rattle.stream.specs.Input.{unfinished, valuesOf}
-use Rattle.stream.specs.Refusals.{lineCount, refusals, unfinishedText}
 
 -- ---- the numbers that lines get, by the plain machine of demand 3
 

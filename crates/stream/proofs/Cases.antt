@@ -1,21 +1,13 @@
--- Closed cases that compute: the lines of inputs, what is left of them, and the text of refusals. Two tables.
+-- Closed cases that compute: the lines of inputs, and what is left of them. One table.
 -- Assumes nothing.
 use mathlib.Core.List.{List, [], _∷_, map}
 use mathlib.Core.Path.{_≡_, refl}
 use Prim.Native.Nat.{ℕ}
-use Prim.Native.Char.{code}
-use Prim.Native.String.{String, [] as []ₛ, _∷_ as _∷ₛ_}
-use Rattle.lines.specs.Fields.{digitsOf}
+use Prim.Native.String.{String}
+use Rattle.refusal_text.proofs.Cases.{bytes}
 use Rattle.stream.specs.Input.{finishedLines, unfinished, restAfter}
-use Rattle.stream.specs.Refusals.{refusalLine, answerText, lastLine, nextLine, lineCount, refusals}
-use Rattle.stream.specs.Refusals.{unfinishedText}
 
-abbrev bytes : String → List ℕ
-bytes []ₛ = []
-bytes (c ∷ₛ s) = code c ∷ bytes s
-
--- ---- an input: its finished lines, and its unfinished rest
-
+-- an input: its finished lines, and its unfinished rest
 pub record Input : Type 0 where
   pub bytes : List ℕ
   pub lines : List (List ℕ)
@@ -44,21 +36,3 @@ inputs-hold = refl
 pub rests-hold : map (restAfter (bytes "ab")) (map bytes ("" ∷ ("c" ∷ ("c\nd" ∷ ("\n" ∷ [])))))
     ≡ map bytes ("ab" ∷ ("abc" ∷ ("d" ∷ ("" ∷ []))))
 rests-hold = refl
-
--- ---- refusals
-
--- the first line and the last that there is; two of four lines, after 8; a rest, and none
-abbrev pub texts : List (List ℕ)
-texts =
-    refusalLine (nextLine 0) 15
-    ∷ (refusalLine (nextLine lastLine) 2
-    ∷ (refusals 8 (0 ∷ (16 ∷ (0 ∷ (11 ∷ []))))
-    ∷ (unfinishedText (lineCount 8 (0 ∷ (16 ∷ []))) (bytes "x") ∷ (unfinishedText 8 [] ∷ []))))
-
-pub texts-hold : texts
-    ≡ map bytes
-    ("refused,1,15\n"
-    ∷ ("refused,18446744073709551615,2\n"
-    ∷ ("refused,10,16\nrefused,12,11\n" ∷ ("refused,11,15\n" ∷ ("" ∷ [])))))
-unfolding refusalLine answerText unfinishedText digitsOf
-texts-hold = refl

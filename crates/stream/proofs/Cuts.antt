@@ -1,9 +1,9 @@
 -- Cutting decides nothing, and neither does keeping 81 bytes of an unfinished line at most.
--- In order: an input cut in two; bytes without a byte 10 in front of others; what is kept of them; lines, their count
--- and their refusals one after the other; the rest's refusal.
+-- In order: an input cut in two; bytes without a byte 10 in front of others; what is kept of them; lines one after the
+-- other; the rest's refusal.
 -- Assumes nothing.
 use mathlib.Core.Bool.{Bool, true, false, true≢false}
-use mathlib.Core.List.{List, [], _∷_, _++_, map, append-assoc}
+use mathlib.Core.List.{List, [], _∷_, _++_, map}
 use mathlib.Core.Logic.{⊎-elim}
 use mathlib.Core.Path.{_≡_, refl, sym, _∙_, ap}
 use Prim.Native.Nat.{ℕ, zero, suc, _≤_, _<_}
@@ -21,8 +21,8 @@ use Rattle.lines.specs.Fields.{fieldsOf}
 use Rattle.lines.specs.Line.{lineLength, lineOf, formOf}
 use Rattle.lines.specs.declared.Line.{Line}
 use Rattle.lines.specs.declared.Line.the-variants.{Malformed}
+use Rattle.refusal_text.specs.Refusals.{unfinishedText}
 use Rattle.stream.specs.Input.{isEnd, inFront, finishedLines, unfinished, valuesOf, valuesAfter, restAfter}
-use Rattle.stream.specs.Refusals.{nextLine, lineCount, answerText, refusals, unfinishedText}
 use Rattle.stream.specs.Taking.{keptMost}
 
 -- ---- an input cut in two
@@ -168,16 +168,6 @@ map-append (x ∷ xs) ys = ap (λ (ls : List Line). lineOf x ∷ ls) (map-append
 pub cut-values : (xs ys : List ℕ) → valuesOf (xs ++ ys) ≡ valuesOf xs ++ valuesOf (unfinished xs ++ ys)
 cut-values xs ys =
     ap (map lineOf) (cut-lines xs ys) ∙ map-append (finishedLines xs) (finishedLines (unfinished xs ++ ys))
-
-pub count-append : (n : ℕ) (ks ls : List ℕ) → lineCount n (ks ++ ls) ≡ lineCount (lineCount n ks) ls
-count-append n [] ls = refl
-count-append n (k ∷ ks) ls = count-append (nextLine n) ks ls
-
-pub refusals-append : (n : ℕ) (ks ls : List ℕ) → refusals n (ks ++ ls) ≡ refusals n ks ++ refusals (lineCount n ks) ls
-refusals-append n [] ls = refl
-refusals-append n (k ∷ ks) ls =
-    ap (λ (t : List ℕ). answerText (nextLine n) k ++ t) (refusals-append (nextLine n) ks ls)
-    ∙ sym (append-assoc (answerText (nextLine n) k) (refusals (nextLine n) ks) _)
 
 pub rest-kept : (n : ℕ) (u : List ℕ) → unfinishedText n (take keptMost u) ≡ unfinishedText n u
 unfolding unfinishedText

@@ -1,115 +1,26 @@
--- The end of the input: a report after a refusal, in one buffer; and what `finish` answers.
+-- The end of the input: what `finish` answers, and that the text which it tells of lies within the buffer.
 -- Assumes nothing.
 use mathlib.Core.Bool.{true, false, true≢false, false≢true}
-use mathlib.Core.List.{List, [], _∷_, _++_, append-nil}
+use mathlib.Core.List.{List, [], _∷_, _++_}
 use mathlib.Core.Logic.{⊎-elim}
 use mathlib.Core.Path.{_≡_, refl, sym, _∙_, ap, ap₂, subst}
-use Prim.Native.Nat.{ℕ, zero, suc, _+_, _-_, _≤_, _<_, min}
+use Prim.Native.Nat.{ℕ, zero, suc, _+_, _-_, _≤_, _<_}
 use native.Mathlib.Nat.{zero-add}
 use native.Mathlib.Omega.{arith}
-use lib.Dec.{ltb, eqb}
-use lib.ListN.{length, take, drop, length-drop, length-take, length-append, drop-of-length-le}
-use lib.Seq.{take-all, drop-at, length-take-le, take-append-seam, drop-append-seam}
+use lib.Dec.{eqb}
+use lib.ListN.{length, take, drop, length-drop, length-take, length-append}
+use lib.Seq.{take-append-seam}
 use borrow.Author.Tests.{lt-ltb, le-ltb, eqb-true, eqb-false}
-use borrow.Rule.Slice.PartMut.{midOf, putMid, put-same}
 use Rattle.lists.specs.Choice.{firstOf}
 use Rattle.lists.proofs.Choice.{bool-cases}
-use Rattle.plan.specs.declared.Partitioning.{Partitioning}
 use Rattle.text_buffer.specs.Buffer.{Put}
 use Rattle.report.specs.Text.{countLine}
-use Rattle.report.specs.Report.{reportNumber, ReportWritten}
-use Rattle.report.specs.declared.Reported.{Reported}
+use Rattle.report.specs.Report.{reportNumber}
 use Rattle.session.specs.Session.{planOf, usedRows}
-use Rattle.session.specs.declared.Session.{Session}
-use Rattle.session.proofs.Walls.{lent-used, back-used, back-left, back-same}
-use Rattle.stream.specs.Finishing.{restText, finishRoom, finishNumber, ReportEnded, FinishedBy}
+use Rattle.text_end.specs.Ending.{ReportEnded}
+use Rattle.text_end.specs.declared.Finished.{Finished}
+use Rattle.stream.specs.Finishing.{restText, finishRoom, finishNumber, FinishedBy}
 use Rattle.stream.specs.declared.Reading.{Reading}
-use Rattle.stream.specs.declared.Finished.{Finished}
-
-module _ (s : Session) (u : ℕ) (rest rows out rows₁ out₁ : List ℕ) (p : Partitioning) (w : Reported)
-    (z : u ≡ min (usedRows s) (length rows)) (e : p ≡ planOf s) (room : length rest ≤ length out)
-    (h : ReportWritten p (take u rows) (midOf (length rest) (length out - length rest) out) rows₁ out₁ w)
-    (lr : length rows₁ ≡ length (take u rows)) where
-  mid-is : midOf (length rest) (length out - length rest) out ≡ drop (length rest) out
-  mid-is = take-all (length out - length rest) (drop (length rest) out) (omega (arith, length-drop (length rest) out))
-
-  put-is : putMid (length rest) (length out - length rest) out out₁ ≡ take (length rest) out ++ out₁
-  put-is =
-      ap (λ (l : List ℕ). take (length rest) out ++ l)
-      (ap (λ (l : List ℕ). out₁ ++ l)
-      (drop-of-length-le (drop (length rest) out) {i = length out - length rest}
-      (omega (arith, length-drop (length rest) out)))
-      ∙ append-nil out₁)
-
-  report-is : (out′ : List ℕ) → drop (length rest) out′ ≡ out₁
-      → ReportWritten (planOf s) (take (usedRows s) rows) (drop (length rest) out)
-      (take (usedRows s) (rows₁ ++ drop u rows)) (drop (length rest) out′) w
-  report-is out′ f =
-      subst
-      (λ (o : List ℕ).
-      ReportWritten (planOf s) (take (usedRows s) rows) (drop (length rest) out)
-      (take (usedRows s) (rows₁ ++ drop u rows)) o w)
-      (sym f)
-      (subst
-      (λ (r : List ℕ). ReportWritten (planOf s) (take (usedRows s) rows) (drop (length rest) out) r out₁ w)
-      (sym (back-used (usedRows s) u rows z rows₁ lr))
-      (subst (λ (o : List ℕ). ReportWritten (planOf s) (take (usedRows s) rows) o rows₁ out₁ w) mid-is
-      (subst
-      (λ (r : List ℕ).
-      ReportWritten (planOf s) r (midOf (length rest) (length out - length rest) out) rows₁ out₁ w)
-      (lent-used (usedRows s) u rows z)
-      (subst
-      (λ (q : Partitioning).
-      ReportWritten q (take u rows) (midOf (length rest) (length out - length rest) out) rows₁ out₁ w)
-      e h))))
-
-  pub ended-refused : (w .number ≡ 0 → ⊥)
-      → ReportEnded s rest rows out (rows₁ ++ drop u rows) (putMid (length rest) (length out - length rest) out out₁)
-      (record { number = w .number; bytes = 0 })
-  ended-refused ne = record {
-    reported = w;
-    report =
-        report-is _
-        (ap (drop (length rest)) put-is
-        ∙ drop-at (take (length rest) out) out₁ (length rest) (length-take-le (length rest) out room));
-    number = refl;
-    refused = λ _. (
-      back-same u rows rows₁ (h .refused ne .0),
-      (
-        ap (putMid (length rest) (length out - length rest) out) (h .refused ne .1 .0)
-            ∙ put-same (length rest) (length out - length rest) out,
-        refl,
-      ),
-    );
-    beyond = back-left (usedRows s) u rows z rows₁ lr;
-    start = λ q. absurd (ne q);
-    bytes = λ q. absurd (ne q);
-  }
-
-  pub ended-written : w .number ≡ 0 → (out′ : List ℕ) (k : ℕ)
-      → Put 0 rest (putMid (length rest) (length out - length rest) out out₁) out′ k
-      → ReportEnded s rest rows out (rows₁ ++ drop u rows) out′ (record { number = 0; bytes = length rest + w .bytes })
-  ended-written q out′ k put =
-      let is : out′ ≡ rest ++ out₁ =
-      put .holds
-      ∙ ap (λ (n : ℕ). rest ++ drop n (putMid (length rest) (length out - length rest) out out₁))
-      (zero-add (length rest))
-      ∙ ap (λ (l : List ℕ). rest ++ drop (length rest) l) put-is
-      ∙ ap (λ (l : List ℕ). rest ++ l)
-      (drop-at (take (length rest) out) out₁ (length rest) (length-take-le (length rest) out room)) in
-      record {
-        reported = w;
-        report = report-is out′ (ap (drop (length rest)) is ∙ drop-append-seam rest out₁);
-        number = sym q;
-        refused = λ ne. absurd (ne refl);
-        beyond = back-left (usedRows s) u rows z rows₁ lr;
-        start = λ _. ap (take (length rest)) is ∙ take-append-seam rest out₁;
-        bytes = λ _. refl;
-      }
-
-  pub ended-fits : w .number ≡ 0 → length rest + w .bytes ≤ length out
-  ended-fits q =
-      omega (arith, h .written q .within, ap length mid-is, length-drop (length rest) out)
 
 -- ---- what `finish` answers
 

@@ -1,7 +1,6 @@
--- The laws of this crate: cutting an input; refusals; what is kept of a line; what is left of a part, and the loop over
--- it; the checks of `take`; the end of the input; closed cases.
+-- The laws of this crate: cutting an input; what is kept of a line; what is left of a part, and the loop over it; the
+-- checks of `take`; the end of the input; closed cases.
 pub mod Cuts
-pub mod Refusals
 pub mod Keeping
 pub mod Parts
 pub mod Loop

@@ -15,12 +15,12 @@ use Rattle.checks.specs.Stores.{Stores}
 use Rattle.lines.specs.Fields.{lineEnd}
 use Rattle.lines.proofs.Fields.{byte-there, byte-none, none-before}
 use Rattle.text_buffer.proofs.Writing.{written-length}
+use Rattle.refusal_text.specs.Refusals.{answerText, refusalRoom, nextLine}
+use Rattle.refusal_text.proofs.Refusals.{answer-length}
 use Rattle.stream.specs.Input.{isEnd}
-use Rattle.stream.specs.Refusals.{answerText, nextLine}
-use Rattle.stream.specs.Taking.{keptMost, refusalRoom, withBytes, LineEnded, PartTaken}
+use Rattle.stream.specs.Taking.{keptMost, withBytes, LineEnded, PartTaken}
 use Rattle.stream.specs.declared.Reading.{Reading}
 use Rattle.stream.specs.declared.Taken.{Taken}
-use Rattle.stream.proofs.Refusals.{answer-length}
 use Rattle.stream.proofs.Keeping.{Fits, keep-fits}
 use Rattle.stream.proofs.Parts.{PartAt, part-end, part-run, part-line, part-whole}
 

@@ -18,14 +18,14 @@ use Rattle.lines.specs.Line.{lineOf}
 use Rattle.lines.specs.declared.Line.{Line}
 use Rattle.text_buffer.specs.Buffer.{written, Put}
 use Rattle.text_buffer.proofs.Writing.{written-more, put-none}
+use Rattle.refusal_text.specs.Refusals.{answerText, refusalRoom, nextLine, lineCount, refusals}
+use Rattle.refusal_text.proofs.Refusals.{answer-length}
 use Rattle.stream.specs.Input.{isEnd, inFront, finishedLines, unfinished, valuesAfter, restAfter}
-use Rattle.stream.specs.Refusals.{answerText, nextLine, lineCount, refusals}
-use Rattle.stream.specs.Taking.{Steps, none, then, keptMost, blankLine, keptBytes, onto, refusalRoom, keptAfter}
+use Rattle.stream.specs.Taking.{Steps, none, then, keptMost, blankLine, keptBytes, onto, keptAfter}
 use Rattle.stream.specs.Taking.{betweenLines, withBytes, LineEnded, PartTaken}
 use Rattle.stream.specs.declared.Reading.{Reading}
 use Rattle.stream.specs.declared.Taken.{Taken}
 use Rattle.stream.proofs.Cuts.{none-finished, none-rest, front-lines, front-rest, take-front, kept-first}
-use Rattle.stream.proofs.Refusals.{answer-length}
 use Rattle.stream.proofs.Keeping.{kept-is}
 
 pub record PartAt (s : Reading) (part : List ℕ) (at : ℕ) (out : List ℕ) (S : Stores) (out′ : List ℕ) (S′ : Stores)

@@ -11,8 +11,8 @@ use lib.ListN.{length, drop, length-append}
 use borrow.Author.Tests.{lt-ltb, le-ltb, eqb-true, eqb-false}
 use Rattle.lists.proofs.Choice.{bool-cases, refuse-met, refuse-passed, or-left, or-right, or-none}
 use Rattle.checks.specs.Stores.{Stores}
-use Rattle.stream.specs.Refusals.{refusals}
-use Rattle.stream.specs.Taking.{keptMost, refusalRoom, takeNumber, PartTaken, TakenBy}
+use Rattle.refusal_text.specs.Refusals.{refusalRoom, refusals}
+use Rattle.stream.specs.Taking.{keptMost, takeNumber, PartTaken, TakenBy}
 use Rattle.stream.specs.declared.Reading.{Reading}
 use Rattle.stream.specs.declared.Taken.{Taken}
 

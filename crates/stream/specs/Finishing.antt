@@ -7,15 +7,14 @@ use Prim.Native.Nat.{ℕ, _+_, _-_}
 use lib.Dec.{ltb}
 use lib.ListN.{length, take, drop}
 use Rattle.lists.specs.Choice.{pick, refuseIf, firstOf}
+use Rattle.refusal_text.specs.Refusals.{refusalRoom, unfinishedText}
 use Rattle.report.specs.Text.{countLine}
 use Rattle.report.specs.Report.{textRoom, reportNumber, ReportWritten}
 use Rattle.report.specs.declared.Reported.{Reported}
 use Rattle.session.specs.Session.{planOf, usedRows, wallRowsMost}
-use Rattle.session.specs.declared.Session.{Session}
-use Rattle.stream.specs.Refusals.{unfinishedText}
-use Rattle.stream.specs.Taking.{keptBytes, onto, refusalRoom}
+use Rattle.text_end.specs.declared.Finished.{Finished}
+use Rattle.stream.specs.Taking.{keptBytes, onto}
 use Rattle.stream.specs.declared.Reading.{Reading}
-use Rattle.stream.specs.declared.Finished.{Finished}
 
 -- the refusal of an unfinished last line
 abbrev pub restText : Reading → List ℕ
@@ -57,16 +56,3 @@ pub record FinishedBy (s : Reading) (rows out rows′ out′ : List ℕ) (r : Fi
   pub refused : (r .number ≡ 0 → ⊥) → (rows′ ≡ rows) × ((out′ ≡ out) × (r .bytes ≡ 0))
   pub complete : r .number ≡ 0 → s .session .complete ≡ true → ReportAfter s rows out rows′ out′ r
   pub incomplete : r .number ≡ 0 → s .session .complete ≡ false → NoReport s rows out rows′ out′ r
-
--- ---- what the private steps promise one another
-
--- a report behind a refusal in hand
-pub record ReportEnded (s : Session) (rest rows out rows′ out′ : List ℕ) (r : Finished) : Type 0 where
-  pub reported : Reported
-  pub report : ReportWritten (planOf s) (take (usedRows s) rows) (drop (length rest) out) (take (usedRows s) rows′)
-      (drop (length rest) out′) reported
-  pub number : r .number ≡ reported .number
-  pub refused : (r .number ≡ 0 → ⊥) → (rows′ ≡ rows) × ((out′ ≡ out) × (r .bytes ≡ 0))
-  pub beyond : drop (usedRows s) rows′ ≡ drop (usedRows s) rows
-  pub start : r .number ≡ 0 → take (length rest) out′ ≡ rest
-  pub bytes : r .number ≡ 0 → r .bytes ≡ length rest + reported .bytes

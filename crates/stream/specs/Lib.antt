@@ -1,5 +1,4 @@
 -- The definitions of this crate, in a reader's order.
 pub mod Input
-pub mod Refusals
 pub mod Taking
 pub mod Finishing

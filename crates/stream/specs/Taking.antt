@@ -13,11 +13,11 @@ use Rattle.checks.specs.Stores.{Stores}
 use Rattle.lines.specs.Line.{lineLength, lineOf}
 use Rattle.lines.specs.declared.Line.{Line}
 use Rattle.text_buffer.specs.Buffer.{Put}
+use Rattle.refusal_text.specs.Refusals.{answerText, refusalRoom, nextLine, lineCount, refusals}
 use Rattle.session.specs.Session.{fresh, SteppedBy}
 use Rattle.session.specs.declared.Session.{Session}
 use Rattle.session.specs.declared.Stepped.{Stepped}
 use Rattle.stream.specs.Input.{isEnd, valuesAfter, restAfter}
-use Rattle.stream.specs.Refusals.{answerText, nextLine, lineCount, refusals}
 use Rattle.stream.specs.declared.Reading.{Reading}
 use Rattle.stream.specs.declared.Taken.{Taken}
 
@@ -54,10 +54,6 @@ abbrev pub onto : List ℕ → List ℕ → List ℕ
 onto bytes buffer = bytes ++ drop (length bytes) buffer
 
 -- ---- a part of the input
-
--- the bytes that a refusal surely fits in: `refused,`, two numbers of at most 20 digits, a comma and byte 10
-abbrev pub refusalRoom : ℕ
-refusalRoom = 50
 
 -- 4 for a reading that keeps more bytes than it has room for, and for a text buffer without room for a refusal for each
 -- byte of the part, of which each may end a line

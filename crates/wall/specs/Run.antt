@@ -7,11 +7,11 @@ use Prim.Native.Nat.{ℕ, _≤_}
 use lib.ListN.{length}
 use Rattle.checks.specs.Stores.{Stores, stores}
 use Rattle.session.specs.Session.{EightPartitions}
+use Rattle.text_end.specs.declared.Finished.{Finished}
 use Rattle.stream.specs.Taking.{TakenBy}
 use Rattle.stream.specs.Finishing.{FinishedBy}
 use Rattle.stream.specs.declared.Reading.{Reading}
 use Rattle.stream.specs.declared.Taken.{Taken}
-use Rattle.stream.specs.declared.Finished.{Finished}
 use Rattle.program_text.specs.Streamed.{Reads}
 
 -- the stores as they were at first, the parts taken since, the last first, and what was written for them

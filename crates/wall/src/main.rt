@@ -8,17 +8,17 @@ mod channel;
 ghost use Prim.Native.Nat.{_*_, _≤_};
 ghost use lib.ListN.{length};
 ghost use Rattle.checks.specs.Stores.{stores};
-ghost use Rattle.stream.specs.Taking.{refusalRoom};
+ghost use Rattle.refusal_text.specs.Refusals.{refusalRoom};
 ghost use Rattle.stream.specs.Finishing.{finishRoom};
 ghost use Rattle.wall.specs.Run.{Following, FollowingRows, PartFollowed, EndFollowed};
 use channel::Moved;
+use refusal_text::REFUSAL_BYTES;
 use session::ROW_WORDS;
 use session::TUPLE_WORDS;
 use stream::FINISH_BYTES;
-use stream::Finished;
-use stream::REFUSAL_BYTES;
 use stream::Reading;
 use stream::Taken;
+use text_end::Finished;
 
 // The most bytes of a part. The text buffer has room for a refusal for each of them, and for the end of the text.
 const PART_BYTES: usize = 4096;

@@ -7,7 +7,7 @@ use native.Mathlib.Omega.{arith}
 use lib.ListN.{length-map}
 use lib.Seq.{length-take-le}
 use Rattle.text_buffer.specs.Buffer.{Put}
-use Rattle.stream.specs.Refusals.{answerText}
+use Rattle.refusal_text.specs.Refusals.{answerText}
 use Rattle.stream.specs.Taking.{betweenLines}
 use Rattle.stream.proofs.Keeping.{Fits}
 use borrow.Author.Needs.{needs}

@@ -1,34 +1,41 @@
 -- `stream::finish` meets its contract.
 -- Assumes nothing.
-use mathlib.Core.Path.{_≡_, sym, ap}
+use mathlib.Core.Path.{_≡_, sym, _∙_, ap}
 use Prim.Native.Nat.{_≤_}
 use native.Mathlib.Omega.{arith}
-use lib.ListN.{length, take}
+use lib.ListN.{length, take, length-map}
 use lib.Seq.{length-take-le}
-use Rattle.stream.specs.Taking.{keptBytes}
+use Rattle.refusal_text.proofs.Refusals.{unfinished-length}
+use Rattle.text_end.proofs.Endings.{rest-counted}
+use Rattle.stream.specs.Taking.{keptMost, keptBytes}
 use Rattle.stream.specs.Finishing.{restText}
-use Rattle.stream.proofs.Refusals.{unfinished-length}
 use Rattle.stream.proofs.Finishes.{finish-short, finish-with, finish-without, rest-taken, rest-within}
 use borrow.Author.Needs.{needs}
 use Rattle.stream.proofs.finish.Statement.{statement}
 use Rattle.stream.proofs.finish.Tie as tie
 
+long : (s : tie.Start) → length (s .args .s .line) ≡ keptMost
+long s = simp length-map at (s .good .0 .1 .1 .1 .1 .1 .0 .1 .0 .1)
+
 -- the refusal that was put, its length
 rest-is : (c : tie.After-put-rest)
-    → take (c .put-rest .result) (c .put-rest .last .1 .0)
+    → take (c .put-rest .result) (c .put-rest .last .1 .1 .0)
     ≡ restText (c .before .before .before .before .before .args .s)
-rest-is c = rest-taken _ _ _ _ (c .put-rest .ensures)
+rest-is c =
+    let s = c .before .before .before .before .before in
+    rest-taken _ _ _ _ (c .put-rest .ensures)
+    ∙ rest-counted (s .args .s .lines) (s .args .s .kept) (s .args .s .line) (omega (arith, long s))
 
-rest-size : (c : tie.After-put-rest) → length (take (c .put-rest .result) (c .put-rest .last .1 .0)) ≤ 50
+rest-size : (c : tie.After-put-rest) → length (take (c .put-rest .result) (c .put-rest .last .1 .1 .0)) ≤ 50
 rest-size c =
     let s = c .before .before .before .before .before .args .s in
     omega (arith, ap length (rest-is c), unfinished-length (s .lines) (keptBytes s))
 
-within : (c : tie.After-put-rest) → c .put-rest .result ≤ length (c .put-rest .last .1 .0)
+within : (c : tie.After-put-rest) → c .put-rest .result ≤ length (c .put-rest .last .1 .1 .0)
 within c = rest-within _ _ _ _ (c .put-rest .ensures)
 
 counted : (c : tie.After-put-rest)
-    → c .put-rest .result ≡ length (take (c .put-rest .result) (c .put-rest .last .1 .0))
+    → c .put-rest .result ≡ length (take (c .put-rest .result) (c .put-rest .last .1 .1 .0))
 counted c = sym (length-take-le _ _ (within c))
 
 returns : tie.Need-returns

@@ -5,9 +5,9 @@ use mathlib.Core.List.{List}
 use Prim.Native.Nat.{ℕ, _≤_}
 use lib.ListN.{length}
 use borrow.Author.Needs.{needs}
+use Rattle.text_end.specs.declared.Finished.{Finished}
 use Rattle.stream.specs.Finishing.{finishRoom, FinishedBy}
 use Rattle.stream.specs.declared.Reading.{Reading}
-use Rattle.stream.specs.declared.Finished.{Finished}
 use Rattle.stream.proofs.Finishes.{finished-within}
 use Rattle.program_text.proofs.Streams.{never-refused}
 use Rattle.wall.specs.Run.{FollowingRows, EndFollowed}

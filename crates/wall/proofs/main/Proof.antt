@@ -8,8 +8,9 @@ use borrow.Author.Needs.{needs}
 use lib.ListN.{length, take, length-take}
 use lib.Seq.{length-take-le}
 use Rattle.checks.specs.Stores.{stores}
+use Rattle.refusal_text.specs.Refusals.{refusalRoom}
 use Rattle.session.specs.Session.{wallTupleWords, wallRowWords}
-use Rattle.stream.specs.Taking.{refusalRoom, atStart}
+use Rattle.stream.specs.Taking.{atStart}
 use Rattle.stream.specs.Finishing.{finishRoom}
 use Rattle.stream.specs.declared.Reading.{Reading}
 use Rattle.program_text.specs.Streamed.{started}

@@ -5,7 +5,8 @@ use Prim.Native.Nat.{ℕ, _*_, _≤_}
 use lib.ListN.{length, take}
 use borrow.Author.Needs.{needs}
 use Rattle.checks.specs.Stores.{Stores}
-use Rattle.stream.specs.Taking.{refusalRoom, TakenBy}
+use Rattle.refusal_text.specs.Refusals.{refusalRoom}
+use Rattle.stream.specs.Taking.{TakenBy}
 use Rattle.stream.specs.declared.Reading.{Reading}
 use Rattle.stream.specs.declared.Taken.{Taken}
 use Rattle.stream.proofs.Takes.{taken-within}

@@ -1,4 +1,4 @@
--- `stream::finish_plain` meets its contract.
+-- `text_end::finish_plain` meets its contract.
 -- Assumes nothing.
 use mathlib.Core.List.{List, _++_}
 use mathlib.Core.Path.{_∙_, ap, ap₂}
@@ -10,8 +10,8 @@ use Rattle.report.specs.Text.{countLine}
 use Rattle.text_buffer.specs.Buffer.{written, Put}
 use Rattle.text_buffer.proofs.Writing.{written-more}
 use borrow.Author.Needs.{needs}
-use Rattle.stream.proofs.finish_plain.Statement.{statement}
-use Rattle.stream.proofs.finish_plain.Tie as tie
+use Rattle.text_end.proofs.finish_plain.Statement.{statement}
+use Rattle.text_end.proofs.finish_plain.Tie as tie
 
 both : (rest out now out′ : List ℕ) (at r : ℕ) → 0 + length rest ≤ length out → Put 0 rest out now at
     → Put at (countLine 0) now out′ r → Put 0 (rest ++ countLine 0) out out′ r

@@ -1,30 +1,25 @@
--- `stream::put_answer` meets its contract: nothing for an accepted line, else its refusal.
+-- `refusal_text::put_answer` meets its contract: nothing for an accepted line, else its refusal.
 -- Assumes nothing.
-use mathlib.Core.Bool.{true, false}
-use mathlib.Core.List.{List, [], _++_}
-use mathlib.Core.Path.{_≡_, sym, _∙_, ap, subst}
-use Prim.Native.Nat.{ℕ, _+_}
-use native.Mathlib.Nat.{add-zero}
+use mathlib.Core.List.{List, []}
+use mathlib.Core.Path.{_≡_, sym, subst}
+use Prim.Native.Nat.{ℕ}
 use lib.Dec.{eqb}
-use lib.ListN.{length, take, drop, take-append-drop}
 use borrow.Author.Tests.{eq-eqb, ne-eqb}
 use Rattle.lists.proofs.Choice.{pick-true, pick-false}
 use Rattle.text_buffer.specs.Buffer.{Put}
-use Rattle.stream.specs.Refusals.{refusalLine, answerText}
-use Rattle.stream.proofs.Refusals.{refusal-fits}
+use Rattle.text_buffer.proofs.Writing.{put-none}
+use Rattle.refusal_text.specs.Refusals.{refusalLine, answerText}
+use Rattle.refusal_text.proofs.Refusals.{refusal-fits}
 use borrow.Author.Needs.{needs}
-use Rattle.stream.proofs.put_answer.Statement.{statement}
-use Rattle.stream.proofs.put_answer.Tie as tie
+use Rattle.refusal_text.proofs.put_answer.Statement.{statement}
+use Rattle.refusal_text.proofs.put_answer.Tie as tie
 
 none : (at line number : ℕ) (out : List ℕ) → number ≡ 0 → Put at (answerText line number) out out at
 unfolding answerText
 none at line number out e =
     subst (λ (t : List ℕ). Put at t out out at)
     (sym (pick-true (eqb number 0) [] (refusalLine line number) (eq-eqb number 0 e)))
-    (record {
-      holds = sym (ap (λ (n : ℕ). take at out ++ drop n out) (add-zero at) ∙ take-append-drop at out);
-      place = sym (add-zero at);
-    })
+    (put-none at out)
 
 some : (at line number : ℕ) (out out′ : List ℕ) (r : ℕ) → (number ≡ 0 → ⊥) → Put at (refusalLine line number) out out′ r
     → Put at (answerText line number) out out′ r

@@ -1,7 +1,9 @@
--- The length of a refusal, of a line's answer and of the rest's refusal: at most 50 bytes.
+-- Laws of refusals. In order: the length of a refusal, of a line's answer and of the rest's refusal, at most 50 bytes;
+-- lines one after the other, their count and their refusals.
 -- Assumes nothing.
 use mathlib.Core.Bool.{Bool, true, false}
-use mathlib.Core.List.{List, [], _∷_, _++_}
+use mathlib.Core.List.{List, [], _∷_, _++_, append-assoc}
+use mathlib.Core.Path.{_≡_, refl, sym, _∙_, ap}
 use Prim.Native.Nat.{ℕ, _+_, _≤_}
 use native.Mathlib.Omega.{arith}
 use lib.Dec.{eqb}
@@ -12,8 +14,10 @@ use Rattle.lines.specs.Line.{lineNumber}
 use Rattle.lines.specs.declared.Line.the-variants.{Malformed}
 use Rattle.text_buffer.specs.Buffer.{ended}
 use Rattle.text_buffer.proofs.Digits.{digits-twenty}
-use Rattle.stream.specs.Refusals.{refusedBytes, refusalLine, answerText, nextLine, unfinishedText}
-use Rattle.stream.specs.Taking.{refusalRoom}
+use Rattle.refusal_text.specs.Refusals.{refusedBytes, refusalLine, answerText, refusalRoom, nextLine, lineCount}
+use Rattle.refusal_text.specs.Refusals.{refusals, unfinishedText}
+
+-- ---- how long they are
 
 refusal-length : (l n : ℕ) → length (refusalLine l n) ≤ refusalRoom
 unfolding refusalLine
@@ -44,3 +48,15 @@ pub unfinished-length : (n : ℕ) (u : List ℕ) → length (unfinishedText n u)
 unfolding unfinishedText
 unfinished-length n [] = omega arith
 unfinished-length n (b ∷ u) = refusal-length (nextLine n) (lineNumber Malformed)
+
+-- ---- lines one after the other
+
+pub count-append : (n : ℕ) (ks ls : List ℕ) → lineCount n (ks ++ ls) ≡ lineCount (lineCount n ks) ls
+count-append n [] ls = refl
+count-append n (k ∷ ks) ls = count-append (nextLine n) ks ls
+
+pub refusals-append : (n : ℕ) (ks ls : List ℕ) → refusals n (ks ++ ls) ≡ refusals n ks ++ refusals (lineCount n ks) ls
+refusals-append n [] ls = refl
+refusals-append n (k ∷ ks) ls =
+    ap (λ (t : List ℕ). answerText (nextLine n) k ++ t) (refusals-append (nextLine n) ks ls)
+    ∙ sym (append-assoc (answerText (nextLine n) k) (refusals (nextLine n) ks) _)

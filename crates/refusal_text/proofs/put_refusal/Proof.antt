@@ -1,17 +1,17 @@
--- `stream::put_refusal` meets its contract: field after field (`Left`: what is left of the line).
+-- `refusal_text::put_refusal` meets its contract: field after field (`Left`: what is left of the line).
 -- Assumes nothing.
-use mathlib.Core.List.{List, [], _++_, append-nil}
+use mathlib.Core.List.{List, [], _∷_, _++_, append-nil}
 use mathlib.Core.Path.{_≡_, sym, ap}
 use Prim.Native.Nat.{ℕ, _+_, _≤_}
-use lib.ListN.{length}
+use native.Mathlib.Omega.{arith}
+use lib.ListN.{length, length-append}
 use Rattle.lines.specs.Fields.{comma, lineEnd, digitsOf}
-use Rattle.text_buffer.specs.Buffer.{ended}
-use Rattle.text_buffer.specs.Buffer.{Put}
+use Rattle.text_buffer.specs.Buffer.{ended, Put}
 use Rattle.text_buffer.proofs.Writing.{Left, left-start, left-room, left-more, left-end, left-as}
-use Rattle.stream.specs.Refusals.{refusedBytes, refusalLine}
+use Rattle.refusal_text.specs.Refusals.{refusedBytes, refusalLine}
 use borrow.Author.Needs.{needs}
-use Rattle.stream.proofs.put_refusal.Statement.{statement}
-use Rattle.stream.proofs.put_refusal.Tie as tie
+use Rattle.refusal_text.proofs.put_refusal.Statement.{statement}
+use Rattle.refusal_text.proofs.put_refusal.Tie as tie
 
 -- the line with `left` still to put from place `at` on
 abbrev LineLeft : tie.Start → ℕ → List ℕ → List ℕ → Type 0
@@ -40,11 +40,18 @@ none-put s =
     (pieces (a .line) (a .number))
     (left-start (a .at) (refusalLine (a .line) (a .number)) (a .out .now))
 
-room : (s : tie.Start) (at : ℕ) (field rest now : List ℕ) → LineLeft s at (field ++ rest) now
-    → at + length field ≤ length now
-room s at field rest now l =
+-- the next field has room, whichever byte ends it
+room : (s : tie.Start) (at : ℕ) (field : List ℕ) (b c : ℕ) (rest now : List ℕ)
+    → LineLeft s at (ended field b ++ rest) now → at + length (ended field c) ≤ length now
+room s at field b c rest now l =
     let a = s .args in
-    left-room (a .at) (refusalLine (a .line) (a .number)) (a .out .now) (s .pre) at now field rest l
+    let whole = refusalLine (a .line) (a .number) in
+    omega (
+      arith,
+      left-room (a .at) whole (a .out .now) (s .pre) at now (ended field b) rest l,
+      length-append field (b ∷ []),
+      length-append field (c ∷ []),
+    )
 
 more : (s : tie.Start) (at : ℕ) (field rest now now′ : List ℕ) (next : ℕ) → LineLeft s at (field ++ rest) now
     → Put at field now now′ next → LineLeft s next rest now′
@@ -78,19 +85,19 @@ slice-aggregate-put-bytes c = search needs
 put-bytes-requires : tie.Need-put-bytes-requires
 put-bytes-requires c κs =
     let s = c .before .before .before in
-    room s (s .args .at) (ended refusedBytes comma) (afterWord s) _ (none-put s)
+    room s (s .args .at) refusedBytes comma comma (afterWord s) _ (none-put s)
 
 put-number-requires : tie.Need-put-number-requires
 put-number-requires c κs =
     let w = c .before .before .before in
     let s = word-start w in
-    room s (w .put-bytes .result) (ended (digitsOf (s .args .line)) comma) (afterNumber s) _ (word-put w)
+    room s (w .put-bytes .result) (digitsOf (s .args .line)) comma _ (afterNumber s) _ (word-put w)
 
 put-number-requires-2 : tie.Need-put-number-requires-2
 put-number-requires-2 c κs =
     let n = c .before .before .before in
     let s = line-start n in
-    room s (n .put-number .result) (ended (digitsOf (s .args .number)) lineEnd) [] _ (line-put n)
+    room s (n .put-number .result) (digitsOf (s .args .number)) lineEnd _ [] _ (line-put n)
 
 same-length : tie.Need-same-length
 same-length c = search needs

@@ -1,4 +1,4 @@
--- `stream::next_line` meets its contract.
+-- `refusal_text::next_line` meets its contract.
 -- Assumes nothing.
 use mathlib.Core.Path.{_≡_, sym}
 use Prim.Native.Nat.{ℕ, _+_, _≤_, _<_}
@@ -6,10 +6,10 @@ use native.Mathlib.Omega.{arith}
 use lib.Dec.{ltb}
 use borrow.Author.Tests.{le-ltb, lt-ltb}
 use Rattle.lists.proofs.Choice.{pick-true, pick-false}
-use Rattle.stream.specs.Refusals.{lastLine, nextLine}
+use Rattle.refusal_text.specs.Refusals.{lastLine, nextLine}
 use borrow.Author.Needs.{needs}
-use Rattle.stream.proofs.next_line.Statement.{statement}
-use Rattle.stream.proofs.next_line.Tie as tie
+use Rattle.refusal_text.proofs.next_line.Statement.{statement}
+use Rattle.refusal_text.proofs.next_line.Tie as tie
 
 last : (n : ℕ) → lastLine ≤ n → n ≡ nextLine n
 last n h = sym (pick-false (ltb n lastLine) (n + 1) n (le-ltb n lastLine h))

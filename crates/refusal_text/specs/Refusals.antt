@@ -22,6 +22,10 @@ refusalLine line number =
 unfoldable pub answerText : ℕ → ℕ → List ℕ
 answerText line number = pick (eqb number 0) [] (refusalLine line number)
 
+-- the bytes that a refusal surely fits in: `refused,`, two numbers of at most 20 digits, a comma and byte 10
+abbrev pub refusalRoom : ℕ
+refusalRoom = 50
+
 -- "lines counted from 1": the number of the line after n lines. The last number of 64 bits stays: no input gets there
 abbrev pub lastLine : ℕ
 lastLine = 18446744073709551615
