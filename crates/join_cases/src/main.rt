@@ -1,6 +1,7 @@
-// Outside cases for the crate join: seeded lists of calls on small walls, each answer and every word left taken into a
-// digest, which tests/join_cases_expected.py works out in another way. A line for each list: its seed, its digest and
-// how many of its calls were accepted; then a line for each number from 0 to 14: how often it was answered.
+// Outside cases for the crates join and requirements: seeded lists of calls on small walls, each answer and every word
+// left taken into a digest, which tests/join_cases_expected.py works out in another way. A line for each list: its
+// seed, its digest and how many of its calls were accepted; then a line for each number from 0 to 14: how often it was
+// answered.
 //
 // All functions answer for any words: what would be too large is made small first (total), and a word past the end of a
 // slice is 0. So each is proved safe by little more than its loop's bound. Walls and stores go by value, which the
@@ -8,6 +9,7 @@
 mod calls;
 mod digest;
 mod draws;
+mod foreseen;
 mod meddling;
 mod plans;
 mod report;

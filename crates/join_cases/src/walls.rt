@@ -1,10 +1,11 @@
-// A list of calls on one wall.
+// A list of calls on one wall; before each, it is asked what a sweep will take.
 use crate::calls;
 use crate::calls::Call;
 use crate::calls::Left;
 use crate::calls::Lengths;
 use crate::digest;
 use crate::draws;
+use crate::foreseen;
 use crate::meddling;
 use crate::plans;
 use crate::stores;
@@ -133,6 +134,23 @@ fn after(wall: Wall, state: u64, disturbed: bool, kind: u64, left: Left, digest:
     }
 }
 
+// The wall, still before a step's call, after it was told what a sweep will take; the stores are as handed over.
+fn asked(wall: Wall, call: Call, before: Stores, d: &[u64]) -> Wall {
+    let told = foreseen::told(wall.digest, call, before, d);
+    let stores = wall.stores;
+    let plan = wall.plan;
+    let tally = wall.tally;
+    Wall {
+        stores,
+        plan,
+        state: wall.state,
+        digest: told.digest,
+        accepted: total::plus(wall.accepted, total::either(told.number == 0, 1, 0)),
+        age: wall.age,
+        tally: counted(tally, told.number),
+    }
+}
+
 // One step by its draws.
 fn taken(wall: Wall, state: u64, d: &[u64], pool: Pool) -> Wall {
     let p = wall.plan;
@@ -141,9 +159,10 @@ fn taken(wall: Wall, state: u64, d: &[u64], pool: Pool) -> Wall {
     let kind = calls::kind(d, disturbed, wall.age);
     let call = drawn_step(p, kind, d, pool, s);
     let before = meddling::of_step(p, d, s);
+    let told = asked(wall, call, before, d);
     let left = calls::made(call, before);
-    let digest = seen(wall.digest, p, kind, left, before);
-    after(wall, state, disturbed, kind, left, digest)
+    let digest = seen(told.digest, p, kind, left, before);
+    after(told, state, disturbed, kind, left, digest)
 }
 
 // Draws the numbers of a step, and takes it.
