@@ -26,7 +26,9 @@ removal::lacking(side, t, words, Site { count: 1, tuples: site.tuples, rows: sit
 removal::take_rows(side, t, words, Site { count: 1, tuples: site.tuples, rows: site.rows, low: INDEX, at: site.at }, more);
 cache::pass_down(more, 1, words, CHRONON);
 cache::started_from(words, 5, INDEX, 1, m);
+sweep_count::rows_of(p, words, words, INDEX);
 join::repartition(p, [CHRONON; 64], words, words, words);
+layout::put_lasts([CHRONON; 64], more);
 lines::Line::Lane(CHRONON);
 CALLS
 
