@@ -1,12 +1,14 @@
 #!/bin/bash
-# The C host of examples/host, built with the static library, hangs document 01's example as document 01 lists it.
+# The C host of examples/host, built with the static library, hangs document 01's example as document 01 lists it, and
+# says before a sweep of it what that will take.
 # Works from any folder. Needs rt and a C compiler.
 set -eu
 
 here=$(cd "$(dirname "${BASH_SOURCE[0]}")" && pwd -P)
+said=$("$here/../examples/host/run.sh")
+
 # the rows after the two spots are in: the first block of rows that the host prints; AL is label 26 * 1 + 12
-"$here/../examples/host/run.sh" |
-    awk '/^  lane/ { print; seen = 1; next } seen { exit }' |
+awk '/^  lane/ { print; seen = 1; next } seen { exit }' <<<"$said" |
     diff - <(sed 's/^\(.*\),AL,\(.*\),\(.*\),\(.*\),\(.*\)$/  lane \1: label 38, drawing \2, spot \3, minutes \4 to \5/' <<'ROWS'
 1,AL,10,1,30,31
 1,AL,11,1,32,32
@@ -15,4 +17,23 @@ here=$(cd "$(dirname "${BASH_SOURCE[0]}")" && pwd -P)
 3,AL,11,2,41,48
 ROWS
     )
-echo "host: document 01's example hangs as listed"
+
+# What a sweep of it takes, by hand. Rows: of these five, two are listed for lane 1, two for lane 2, one for lane 3.
+# Drawings to carry: above lane 1 stand 33 to 40 and 41 to 48, of which the first begins by 34; above lane 2 stands 41
+# to 48, which does not begin by 40; so 1, for lane 1. Spots: above lane 1 stand 30 to 35 and 36 to 48, of which the
+# first begins by 34; above lane 2 stands 36 to 48, which begins by 40; so 1, for either. A tuple is four words. Pairs:
+# P9 says 5. Room for eight rows a lane; then, in a hall with room for one, the first two lanes do not fit: 10.
+diff <(sed -n '/^requirements/,/^withdraw/{/^withdraw/!p}' <<<"$said") - <<'REQUIREMENTS'
+requirements: number 0, drawings to carry 1, spots to carry 1, pairs 5
+  rows of lane 1: 2, they fit
+  rows of lane 2: 2, they fit
+  rows of lane 3: 1, they fit
+sweep, caches of 4 and 4 words: number 0, counts 5 5
+sweep, caches of 4 and 3 words: number 14, counts 0 0
+requirements: number 0, drawings to carry 1, spots to carry 1, pairs 5
+  rows of lane 1: 2, they do not fit
+  rows of lane 2: 2, they do not fit
+  rows of lane 3: 1, they fit
+sweep, caches of 4 and 4 words: number 10, counts 0 0
+REQUIREMENTS
+echo "host: document 01's example hangs as listed, and takes what was said"

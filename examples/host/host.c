@@ -1,5 +1,5 @@
-// A small host of the static library: opens a wall, inserts document 01's example, withdraws, sweeps and recuts, and
-// prints each call's answer (its number and two counts) and the rows where they change.
+// A small host of the static library: opens a wall, inserts document 01's example, asks what a sweep will take, sweeps,
+// withdraws and recuts, and prints each call's answer (its number and its counts) and the rows where they change.
 #include <inttypes.h>
 #include <stdio.h>
 
@@ -15,6 +15,14 @@ static uint64_t rows[RUTHGARWY_ROW_STORE_WORDS(LANES, ROWS)];
 static uint64_t outer_cache[RUTHGARWY_CACHE_WORDS(LANES, TUPLES)];
 static uint64_t inner_cache[RUTHGARWY_CACHE_WORDS(LANES, TUPLES)];
 static uint64_t answer[RUTHGARWY_ANSWER_WORDS];
+
+// what a sweep will take: the rows of each lane, and an answer of its own kind
+static uint64_t report[LANES];
+static uint64_t required[RUTHGARWY_REQUIREMENTS_WORDS];
+
+// a hall with the same lanes and room for one row in each
+static const uint64_t small_plan[RUTHGARWY_PLAN_WORDS] = {LANES, TUPLES, 1, 34, 40, RUTHGARWY_LAST_MINUTE};
+static uint64_t small_rows[RUTHGARWY_ROW_STORE_WORDS(LANES, 1)];
 
 // an array as a slice: its address and its length in words
 #define SLICE(words) (words), sizeof(words) / sizeof((words)[0])
@@ -37,6 +45,32 @@ static void withdraw(uint64_t side, uint64_t item, uint64_t first, uint64_t last
     uint64_t number = ruthgarwy_delete(SLICE(plan), side, AL, item, first, last, SLICE(outer), SLICE(inner),
                                        SLICE(rows), SLICE(answer));
     told(side == RUTHGARWY_OUTER ? "withdraw drawing" : "withdraw spot", number);
+}
+
+// Will the truck's list, which stands in stores 1 and 2, fit a hall? Prints what a sweep of it will take there.
+static void ask(const uint64_t hall[RUTHGARWY_PLAN_WORDS])
+{
+    uint64_t number = ruthgarwy_requirements(hall, RUTHGARWY_PLAN_WORDS, SLICE(outer), SLICE(inner), SLICE(report),
+                                             SLICE(required));
+    printf("requirements: number %" PRIu64, number);
+    printf(", drawings to carry %" PRIu64, required[RUTHGARWY_REQUIREMENTS_OUTER]);
+    printf(", spots to carry %" PRIu64, required[RUTHGARWY_REQUIREMENTS_INNER]);
+    printf(", pairs %" PRIu64 "\n", required[RUTHGARWY_REQUIREMENTS_PAIRS]);
+    for (size_t lane = 0; lane < LANES; lane++)
+        printf("  rows of lane %zu: %" PRIu64 ", %s\n", lane + 1, report[lane],
+               report[lane] <= hall[RUTHGARWY_PLAN_ROWS] ? "they fit" : "they do not fit");
+}
+
+// A sweep in a hall, with that many words of the two caches lent.
+static void sweep(const uint64_t hall[RUTHGARWY_PLAN_WORDS], uint64_t *hall_rows, size_t hall_rows_words,
+                  size_t outer_words, size_t inner_words)
+{
+    uint64_t number = ruthgarwy_sweep(hall, RUTHGARWY_PLAN_WORDS, SLICE(outer), SLICE(inner), hall_rows,
+                                      hall_rows_words, outer_cache, outer_words, inner_cache, inner_words,
+                                      SLICE(answer));
+    char call[80];
+    snprintf(call, sizeof call, "sweep, caches of %zu and %zu words", outer_words, inner_words);
+    told(call, number);
 }
 
 static void recut(const uint64_t cuts[RUTHGARWY_CUT_WORDS])
@@ -78,13 +112,19 @@ int main(void)
     insert(RUTHGARWY_INNER, 3, 50, 49); // refused: first after last
     print_rows();
 
+    ask(plan);
+    size_t outer_words = RUTHGARWY_NEED_WORDS(required[RUTHGARWY_REQUIREMENTS_OUTER]);
+    size_t inner_words = RUTHGARWY_NEED_WORDS(required[RUTHGARWY_REQUIREMENTS_INNER]);
+    sweep(plan, SLICE(rows), outer_words, inner_words);     // counts: the sum of those rows, and those pairs
+    sweep(plan, SLICE(rows), outer_words, inner_words - 1); // refused: a cache is a word too short
+    ask(small_plan);                                        // accepted: it only says which lanes are too small
+    sweep(small_plan, SLICE(small_rows), outer_words, inner_words); // refused: two lanes are too small
+
     withdraw(RUTHGARWY_OUTER, 11, 32, 32);
     withdraw(RUTHGARWY_OUTER, 11, 32, 32); // refused: it is gone
     print_rows();
 
-    told("sweep", ruthgarwy_sweep(SLICE(plan), SLICE(outer), SLICE(inner), SLICE(rows),
-                                  SLICE(outer_cache), SLICE(inner_cache),
-                                  SLICE(answer)));
+    sweep(plan, SLICE(rows), RUTHGARWY_CACHE_WORDS(LANES, TUPLES), RUTHGARWY_CACHE_WORDS(LANES, TUPLES));
     print_rows();
 
     recut(cuts); // refused: the wall is not empty
