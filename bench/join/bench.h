@@ -51,6 +51,22 @@ typedef struct {
 
 extern const peer library, by_hand, nested_loops, hash_join, sqlite, postgres, postgres_gist;
 
+// What a sweep of the library's stores will take: the rows of each lane, the needs of both sides, the pairs.
+typedef struct {
+    uint64_t rows[MOST_LANES], outer, inner, pairs;
+} requirements;
+
+int ask_library(requirements *r);
+
+// A call of the library that is refused with 5, 6, 14 or 10 straight after a known check, of its stores 1 and 2 and an
+// empty store 3 with room for that many rows a lane:
+//   5   a sweep, the first word of store 3 being wrong: after check 5 of stores 1 and 2
+//   6   an insert of label 0: after check 5 of the three stores
+//   14  a sweep, the spots' cache being a word too short by what was asked: after check 14 of both sides
+//   10  a sweep, the caches being just long enough: after check 10 of the lanes up to the first with too many rows
+// Answers DONE if that is its number.
+int refused_library(uint64_t number, uint64_t rows, const requirements *asked);
+
 double now_ms(void);
 // each word of the library's three stores read once
 uint64_t sum_of_stores(void);

@@ -2,6 +2,7 @@
 """Puts the benchmark's tables into docs/BENCHMARK.md, between its two marks, and draws a plot of each table of joins.
 
     python3 bench/join/keep.py TABLES DOCS     TABLES: what bench/join/run.sh printed; DOCS: the folder with BENCHMARK.md
+    python3 bench/join/keep.py PART DOCS part  PART: what it printed of a part; the other tables stay as they are
     python3 bench/join/keep.py DOCS            draws the plots anew from the tables that stand in DOCS/BENCHMARK.md
 """
 import math
@@ -34,6 +35,21 @@ def tables(text):
             elif rows:
                 break
         yield lines[0], rows[0], rows[2:]
+
+
+def titled(text, lines):
+    """The tables of a text by their titles, with these lines under each title."""
+    for table in re.split(r'^### ', text, flags=re.M)[1:]:
+        title, rest = table.strip().split('\n', 1)
+        yield title, '\n'.join(['### ' + title, *lines, rest]) + '\n\n'
+
+
+def merged(kept, part):
+    """What is kept, with each table of the part in place of the one with its title, or else at the end; under its title
+    those lines on the machine and the programs that are not the page's."""
+    head = kept.split('### ', 1)[0]
+    other = [line for line in part.split('### ', 1)[0].split('\n') if line and line not in head.split('\n')]
+    return head + ''.join({**dict(titled(kept, [])), **dict(titled(part, [''] * bool(other) + other))}.values())
 
 
 def number(cell):
@@ -117,15 +133,18 @@ def plot(title, head, rows):
 
 
 def main():
-    docs = sys.argv[-1]
+    part = sys.argv[-1] == 'part'
+    words = sys.argv[1:-1] if part else sys.argv[1:]
+    docs = words[-1]
     page_path = os.path.join(docs, 'BENCHMARK.md')
     with open(page_path, encoding='utf-8') as f:
         page = f.read()
     before, rest = page.split(BEGIN + '\n', 1)
     kept, after = rest.split(END + '\n', 1)
-    if len(sys.argv) == 3:
-        with open(sys.argv[1], encoding='utf-8') as f:
-            kept = '\n' + f.read().strip() + '\n\n'
+    if len(words) == 2:
+        with open(words[0], encoding='utf-8') as f:
+            new = f.read().strip()
+        kept = merged(kept, new) if part else '\n' + new + '\n\n'
         with open(page_path, 'w', encoding='utf-8') as f:
             f.write(before + BEGIN + '\n' + kept + END + '\n' + after)
     for title, head, rows in tables(kept):

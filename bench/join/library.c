@@ -1,5 +1,6 @@
 // The proved calls, from the static library.
 #include <stdlib.h>
+#include <string.h>
 #include "bench.h"
 #include "ruthgarwy.h"
 
@@ -49,6 +50,36 @@ static int check_library(void)
     uint64_t number = ruthgarwy_insert(plan, RUTHGARWY_PLAN_WORDS, RUTHGARWY_OUTER, 0, 0, 0, 0, outer, tuple_words, inner,
                                        tuple_words, made, row_words, answer, RUTHGARWY_ANSWER_WORDS);
     return number == 6 ? DONE : WRONG;
+}
+
+int ask_library(requirements *r)
+{
+    uint64_t required[RUTHGARWY_REQUIREMENTS_WORDS];
+    uint64_t number = ruthgarwy_requirements(plan, RUTHGARWY_PLAN_WORDS, outer, tuple_words, inner, tuple_words,
+                                             r->rows, plan[RUTHGARWY_PLAN_LANES], required,
+                                             RUTHGARWY_REQUIREMENTS_WORDS);
+    r->outer = required[RUTHGARWY_REQUIREMENTS_OUTER];
+    r->inner = required[RUTHGARWY_REQUIREMENTS_INNER];
+    r->pairs = required[RUTHGARWY_REQUIREMENTS_PAIRS];
+    return number ? WRONG : DONE;
+}
+
+int refused_library(uint64_t number, uint64_t rows, const requirements *asked)
+{
+    static uint64_t none[RUTHGARWY_ROW_STORE_WORDS(MOST_LANES, ROWS)];
+    uint64_t few[RUTHGARWY_PLAN_WORDS], got;
+    memcpy(few, plan, sizeof few);
+    few[RUTHGARWY_PLAN_ROWS] = rows;
+    size_t words = RUTHGARWY_ROW_STORE_WORDS(few[RUTHGARWY_PLAN_LANES], rows);
+    none[0] = number == 5 ? rows + 1 : 0;
+    if (number == 6)
+        got = ruthgarwy_insert(few, RUTHGARWY_PLAN_WORDS, RUTHGARWY_OUTER, 0, 0, 0, 0, outer, tuple_words, inner,
+                               tuple_words, none, words, answer, RUTHGARWY_ANSWER_WORDS);
+    else
+        got = ruthgarwy_sweep(few, RUTHGARWY_PLAN_WORDS, outer, tuple_words, inner, tuple_words, none, words,
+                              outer_cache, RUTHGARWY_NEED_WORDS(asked->outer), inner_cache,
+                              RUTHGARWY_NEED_WORDS(asked->inner) - (number == 14), answer, RUTHGARWY_ANSWER_WORDS);
+    return got == number ? DONE : WRONG;
 }
 
 static uint64_t sum_of(const uint64_t *words, size_t count)

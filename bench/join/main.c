@@ -1,5 +1,6 @@
 // Times the whole join, an insert, a withdrawal and check 5 of the static library beside its peers, on the same data in one
-// run, and prints tables. Shapes after figures 11 to 13 of document 002. Exits 1 if any peer's rows are not the library's.
+// run, and what a sweep will take beside the sweep's own checks, and prints tables. Shapes after figures 11 to 13 of
+// document 002. Exits 1 if any peer's rows are not the library's.
 #include "bench.h"
 #include <inttypes.h>
 #include <stdio.h>
@@ -419,6 +420,102 @@ static void changes(void)
     fflush(stdout);
 }
 
+// The time that the processor spent on this program: other work on the machine lengthens it less than the clock's.
+static double processor_ms(void)
+{
+    struct timespec t;
+    clock_gettime(CLOCK_PROCESS_CPUTIME_ID, &t);
+    return (double)t.tv_sec * 1e3 + (double)t.tv_nsec / 1e6;
+}
+
+typedef struct {
+    const char *name;
+    uint64_t tuples;               // of each side in each lane
+    uint64_t labels, long_percent; // of the tuples in all lanes but the last: how many labels, the share of long-lived
+} wall;
+
+// A tuple ends on one of eight minutes of its lane, and if it is long-lived began half of the calendar before. The last
+// lane has few labels, of its own, and short spans, so that it makes the most rows.
+static tuple tuple_in(const wall *w, const shape *s, size_t lane)
+{
+    int last_lane = lane + 1 == s->lanes;
+    tuple t;
+    t.label = last_lane ? LAST_LABEL - from_to(0, 15) : from_to(1, w->labels);
+    t.number = from_to(0, LAST_NUMBER);
+    t.first = t.last = s->cuts[lane] - 1000 * from_to(0, 7);
+    if (!last_lane && from_to(1, 100) <= w->long_percent)
+        t.first -= t.last < LAST_MINUTE / 2 ? t.last : LAST_MINUTE / 2;
+    return t;
+}
+
+static shape make_wall(const wall *w)
+{
+    shape s = {.lanes = MOST_LANES, .drawing_count = MOST_LANES * w->tuples, .spot_count = MOST_LANES * w->tuples};
+    tuple *d = room(s.drawing_count, sizeof *d), *p = room(s.spot_count, sizeof *p);
+    even_cuts(&s);
+    seed = 1;
+    for (size_t i = 0; i < s.drawing_count; i++)
+        d[i] = tuple_in(w, &s, i / w->tuples), p[i] = tuple_in(w, &s, i / w->tuples);
+    p[s.spot_count - 1].first = s.cuts[s.lanes - 2]; // one has to be carried, so that a cache can be too short
+    s.drawings = d, s.spots = p;
+    return s;
+}
+
+// What a sweep will take, beside what a sweep itself spends on the same: check 5 of stores 1 and 2, and checks 14 and
+// 10, which count the same tuples and pairs. No call makes one of these alone, so calls are timed that are refused
+// straight after one (bench.h). Check 5 of stores 1 and 2 is the time of that refused with 5; check 14 is that of the
+// one refused with 14 less that of 6; check 10 is that of 10 less that of 14: it has counted the rows of all lanes,
+// since only the last gets more than it has room for. The calls take turns, and the one for requirements follows the
+// sweep, which has written store 3: if that makes a difference, it is to its disadvantage.
+static void asking(void)
+{
+    static const wall walls[] = {{"16,384 a side, spans of one minute", 256, 64, 0},
+                                 {"32,768 a side, spans of one minute", 512, 64, 0},
+                                 {"32,768 a side, 6 per cent long-lived", 512, 4096, 6},
+                                 {"32,768 a side, 49 per cent long-lived", 512, 16384, 49}};
+    enum { SWEEP, ASK, AFTER_5, AFTER_6, AFTER_14, AFTER_10, CALLS, ROUNDS = 45 };
+    static const uint64_t numbers[CALLS] = {0, 0, 5, 6, 14, 10};
+    printf("\n### What a sweep will take, beside a sweep's own checks: 64 lanes, the library alone\n\n");
+    printf("| stores and spans | pairs | rows | ms, requirements | ms, sweep | ms, check 5 of stores 1 and 2 |");
+    printf(" ms, check 14 | ms, check 10 | requirements / the three checks |\n|---|---|---|---|---|---|---|---|---|\n");
+    for (size_t c = 0; c < sizeof walls / sizeof *walls; c++) {
+        shape s = make_wall(walls + c);
+        requirements asked;
+        uint64_t pairs = 0, sum = 0, most = 0;
+        double ms[CALLS];
+        if (library.open(&s) || ask_library(&asked))
+            wrong("not opened", library.name);
+        for (size_t i = 0; i < s.lanes; i++)
+            sum += asked.rows[i], most = i + 1 < s.lanes && asked.rows[i] > most ? asked.rows[i] : most;
+        uint64_t few = asked.rows[s.lanes - 1] - 1; // rows a lane: enough for all but the last
+        if (most > few)
+            wrong("another lane than the last gets the most rows", library.name);
+        double spent = 0;
+        for (int run = -1; run < ROUNDS && spent < 30000; run++)
+            for (int call = 0; call < CALLS; call++) {
+                double began = processor_ms();
+                int answer = call == SWEEP ? library.join(&pairs)
+                             : call == ASK ? ask_library(&asked)
+                                           : refused_library(numbers[call], few, &asked);
+                double took = processor_ms() - began;
+                if (answer)
+                    wrong("a call did not go as expected", library.name);
+                if (run <= 0 || took < ms[call]) // the first one warms up
+                    ms[call] = took;
+                spent += took;
+            }
+        if (pairs != asked.pairs || library.rows().rows != sum)
+            wrong("the sweep's counts are not those that were told", library.name);
+        double check_14 = ms[AFTER_14] - ms[AFTER_6], check_10 = ms[AFTER_10] - ms[AFTER_14];
+        printf("| %s | %" PRIu64 " | %" PRIu64 " |", walls[c].name, pairs, sum);
+        cell(ms[ASK]), cell(ms[SWEEP]), cell(ms[AFTER_5]), cell(check_14), cell(check_10);
+        printf(" %.2f |\n", ms[ASK] / (ms[AFTER_5] + check_14 + check_10));
+        fflush(stdout);
+        library.close();
+        free((void *)s.drawings), free((void *)s.spots);
+    }
+}
+
 #define COUNT(a) (sizeof(a) / sizeof *(a))
 
 int main(int count, char **words)
@@ -453,5 +550,7 @@ int main(int count, char **words)
         joins("Labels, 64 lanes, 16,384 tuples a side, spans of one minute", "labels", labels, COUNT(labels));
     if (!*only || !strcmp(only, "changes"))
         changes();
+    if (!*only || !strcmp(only, "requirements"))
+        asking();
     return 0;
 }

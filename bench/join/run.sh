@@ -1,10 +1,12 @@
 #!/bin/bash
 # The benchmark: whole join, insert, withdraw and check 5 of the static library beside nested loops, the same algorithm by
-# hand and a hash join in C, SQLite and PostgreSQL, on the same data in one run. Tables on standard output; each time is the
-# best of up to 15 runs.
+# hand and a hash join in C, SQLite and PostgreSQL, on the same data in one run; and what a sweep will take, beside the
+# sweep's own checks. Tables on standard output; each time is the best of up to 15 runs, in that last table of up to 45.
 #
-#     bench/join/run.sh [PART]       PART: lanes, long, both, sides, labels or changes; all of them unless told otherwise
-#     KEEP=1 bench/join/run.sh       also puts the tables into docs/BENCHMARK.md and draws the plots in docs/ from them
+#     bench/join/run.sh [PART]       PART: lanes, long, both, sides, labels, changes or requirements; all of them unless
+#                                    told otherwise
+#     KEEP=1 bench/join/run.sh       also puts the tables into docs/BENCHMARK.md, with a PART only its own, and draws
+#                                    the plots in docs/ from them
 #     CC=clang bench/join/run.sh     with another C compiler than gcc
 #
 # Proves and builds the library first, if that is needed. Works from any folder. Needs rt and a C compiler. SQLite's columns
@@ -65,4 +67,4 @@ SQLITE_VERSION' | ${CC:-gcc} -E - | tail -n 1 | tr -d '"'), in memory"
     [ -z "$server" ] || echo "- $("$server/postgres" --version), over a Unix socket, tables unlogged, no fsync, one process for a query"
     "$room/bench" ${1:+"$1"}
 } | tee "$room/tables"
-[ -z "${KEEP:-}" ] || python3 "$here/keep.py" "$room/tables" "$root/docs"
+[ -z "${KEEP:-}" ] || python3 "$here/keep.py" "$room/tables" "$root/docs" ${1:+part}
