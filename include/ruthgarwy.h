@@ -177,9 +177,9 @@ uint64_t ruthgarwy_repartition(uint64_t *plan, size_t plan_words,
 
 /*
  * What a sweep will take: from stores 1 and 2, which it only reads. The report has exactly one word for each lane of
- * the plan, and gets the rows that a sweep would put into that lane. The answer is four words: number, each side's need
- * in tuples, the pairs that a sweep would compare. Can be refused with 1 to 5, asked of these two stores and the report.
- * The row capacity refuses nothing here: a reported lane may pass it.
+ * the plan, and gets the rows that a sweep would put into that lane. The answer is four words: number, each side's
+ * need in tuples, the pairs that a sweep would compare. Can be refused with 1 to 5, asked of these two stores and the
+ * report. The row capacity refuses nothing here: a reported lane may pass it.
  *
  * A sweep of the same plan and stores 1 and 2 that is past its own checks 1 to 5 is refused with 14 exactly if a cache
  * has fewer words than RUTHGARWY_NEED_WORDS of its side's need, else with 10 exactly if a reported lane passes the row
