@@ -429,8 +429,8 @@ WALL = [
     # the words and bytes that it lends
     ('wall/main.rt', 'REFUSAL_BYTES * PART_BYTES + FINISH_BYTES', 'REFUSAL_BYTES * 80 + FINISH_BYTES'),
     ('wall/main.rt', 'REFUSAL_BYTES * PART_BYTES + FINISH_BYTES', 'REFUSAL_BYTES * 81'),
-    ('session/lib.rt', 'PARTITIONS as usize * ROW_ROOM', 'PARTITIONS as usize * TUPLE_ROOM'),
-    ('session/lib.rt', 'PARTITIONS as usize * TUPLE_ROOM', '7 * TUPLE_ROOM'),
+    ('session_plan/lib.rt', 'PARTITIONS as usize * ROW_ROOM', 'PARTITIONS as usize * TUPLE_ROOM'),
+    ('session_plan/lib.rt', 'PARTITIONS as usize * TUPLE_ROOM', '7 * TUPLE_ROOM'),
     ('wall/channel.rt', 'if got < 0 {', 'if got < -1 {'),
     ('wall/channel.rt', 'Moved::Failed(error) => error == EINTR,', 'Moved::Failed(error) => false,'),
     ('wall/channel.rt', 'return Moved::Failed(os::errno());', 'return Moved::Failed(0);'),

@@ -24,13 +24,14 @@ use Rattle.history.proofs.Answered.{insert-answered, delete-answered}
 use Rattle.lines.specs.declared.Word.{Word}
 use Rattle.lines.specs.declared.Line.{Line}
 use Rattle.lines.specs.declared.Line.the-variants.{Lane, Change, Malformed}
-use Rattle.session.specs.Session.{EightPartitions, planOf, wallOf, laneNumber, kindOf, sideOf, numberOf}
+use Rattle.session_plan.specs.Lanes.{planOf}
+use Rattle.session_plan.specs.declared.Session.{Session}
+use Rattle.session_plan.proofs.Lanes.{lane-passed}
+use Rattle.session_plan.proofs.Plans.{Good, good-fresh}
+use Rattle.session.specs.Session.{EightPartitions, wallOf, laneNumber, kindOf, sideOf, numberOf}
 use Rattle.session.specs.Session.{changeLineNumber, WallChanged, LaneTaken, stepNumber, SteppedBy}
-use Rattle.session.specs.declared.Session.{Session}
 use Rattle.session.specs.declared.Stepped.{Stepped}
-use Rattle.session.proofs.Lanes.{lane-passed}
 use Rattle.session.proofs.Steps.{after-accepted}
-use Rattle.session.proofs.Reached.{Good, good-fresh}
 use Rattle.session.proofs.Lengths.{step-long}
 use Rattle.session.proofs.Numbers.{lane-number-is, eight-partitions-as}
 use Rattle.transcript.specs.Transcript.{callOf}

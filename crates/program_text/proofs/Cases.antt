@@ -23,7 +23,7 @@ use Rattle.lines.specs.Line.{laneOf, changeOf, worded, formOf, lineOf}
 use Rattle.refusal_text.specs.Refusals.{refusalLine, answerText, unfinishedText}
 use Rattle.report.specs.Order.{before}
 use Rattle.report.specs.Text.{rowLine, countLine}
-use Rattle.session.specs.Session.{badLane, laneCheck}
+use Rattle.session_plan.specs.Lanes.{badLane, laneCheck}
 use Rattle.transcript.specs.Rows.{putRow, sortRows, laneLines, printedRows}
 use Rattle.program_text.specs.Text.{after, reportText, textOfInput}
 

@@ -22,8 +22,9 @@ use Rattle.refusal_text.specs.Refusals.{refusalRoom, lastLine, lineCount, refus
 use Rattle.refusal_text.proofs.Refusals.{unfinished-length, count-append, refusals-append}
 use Rattle.report.specs.Text.{countLine}
 use Rattle.report.specs.Report.{textRoom, reportNumber}
-use Rattle.session.specs.Session.{wallRowsMost, EightPartitions, fresh, planOf, usedRows, wallOf}
-use Rattle.session.specs.declared.Session.{Session}
+use Rattle.session_plan.specs.Lanes.{wallRowsMost, fresh, planOf, usedRows}
+use Rattle.session_plan.specs.declared.Session.{Session}
+use Rattle.session.specs.Session.{EightPartitions, wallOf}
 use Rattle.text_end.specs.declared.Finished.{Finished}
 use Rattle.transcript.specs.Rows.{printedRows}
 use Rattle.transcript.proofs.Reported.{report-accepted}

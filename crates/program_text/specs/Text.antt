@@ -21,8 +21,9 @@ use Rattle.lines.specs.declared.Line.{Line}
 use Rattle.lines.specs.declared.Line.the-variants.{Lane, Change, Malformed}
 use Rattle.refusal_text.specs.Refusals.{lineCount, refusals, unfinishedText}
 use Rattle.report.specs.Text.{countLine}
-use Rattle.session.specs.Session.{fresh, planOf, withLane, laneCheck, kindOf, sideOf}
-use Rattle.session.specs.declared.Session.{Session}
+use Rattle.session_plan.specs.Lanes.{fresh, planOf, withLane, laneCheck}
+use Rattle.session_plan.specs.declared.Session.{Session}
+use Rattle.session.specs.Session.{kindOf, sideOf}
 use Rattle.transcript.specs.Transcript.{callOf}
 use Rattle.transcript.specs.Rows.{printedRows}
 use Rattle.stream.specs.Input.{unfinished, valuesOf}

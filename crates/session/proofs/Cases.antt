@@ -22,9 +22,9 @@ use Rattle.join.specs.Changes.{insertNumber, deleteNumber}
 use Rattle.lines.specs.declared.Word.the-variants.{DrawIn, SpotOut}
 use Rattle.lines.specs.declared.Line.{Line}
 use Rattle.lines.specs.declared.Line.the-variants.{Lane, Change, Malformed}
-use Rattle.session.specs.Session.{fresh, badLane, laneCheck}
+use Rattle.session_plan.specs.Lanes.{fresh, badLane, laneCheck}
+use Rattle.session_plan.specs.declared.Session.{Session}
 use Rattle.session.specs.Session.{laneNumber, changeLineNumber, stepNumber, sessionAfter}
-use Rattle.session.specs.declared.Session.{Session}
 
 -- the numbers that lines get, one after the other
 numbersOf : Stores → Session → List Line → List ℕ

@@ -34,11 +34,12 @@ use Rattle.lines.specs.declared.Word.{Word}
 use Rattle.lines.specs.declared.Word.the-variants.{DrawIn, DrawOut, SpotIn, SpotOut}
 use Rattle.lines.specs.declared.Line.{Line}
 use Rattle.lines.specs.declared.Line.the-variants.{Lane, Change, Malformed}
-use Rattle.session.specs.Session.{planOf, usedTuples, usedRows, wallOf, restOf, Called, WallOpened, WallChanged}
-use Rattle.session.specs.Session.{LaneTaken, Taken, SteppedBy}
-use Rattle.session.specs.declared.Session.{Session}
+use Rattle.session_plan.specs.Lanes.{planOf, usedTuples, usedRows}
+use Rattle.session_plan.specs.declared.Session.{Session}
+use Rattle.session_plan.proofs.Plans.{Good}
+use Rattle.session.specs.Session.{wallOf, restOf, Called, WallOpened, WallChanged, LaneTaken, Taken, SteppedBy}
 use Rattle.session.specs.declared.Stepped.{Stepped}
-use Rattle.session.proofs.Reached.{Reached, begun, then, Good, reached-good}
+use Rattle.session.proofs.Reached.{Reached, begun, then, reached-good}
 
 pub record SameLong (S S′ : Stores) : Type 0 where
   pub outer : length (S′ .outer) ≡ length (S .outer)

@@ -40,12 +40,12 @@ use Rattle.lines.specs.declared.Word.the-variants.{DrawIn, DrawOut, SpotIn, Spo
 use Rattle.lines.specs.declared.Line.{Line}
 use Rattle.lines.specs.declared.Line.the-variants.{Lane, Change, Malformed}
 use Rattle.lines.proofs.Printed.{line-change-bounds}
-use Rattle.session.specs.Session.{planOf, withLane, usedTuples, usedRows, wallTupleWords, EightPartitions}
-use Rattle.session.specs.Session.{wallOf, badLane, laneCheck}
-use Rattle.session.specs.Session.{laneNumber, callNumber, changeLineNumber, stepNumber}
-use Rattle.session.specs.declared.Session.{Session}
-use Rattle.session.proofs.Lanes.{lane-passed}
-use Rattle.session.proofs.Reached.{Reached, Good, good-with, reached-good, plan-legal}
+use Rattle.session_plan.specs.Lanes.{planOf, withLane, usedTuples, usedRows, wallTupleWords, badLane, laneCheck}
+use Rattle.session_plan.specs.declared.Session.{Session}
+use Rattle.session_plan.proofs.Lanes.{lane-passed}
+use Rattle.session_plan.proofs.Plans.{Good, good-with, plan-legal}
+use Rattle.session.specs.Session.{EightPartitions, wallOf, laneNumber, callNumber, changeLineNumber, stepNumber}
+use Rattle.session.proofs.Reached.{Reached, reached-good}
 use Rattle.session.proofs.Lengths.{SameLong, reached-long}
 
 -- ---- the wall of a complete plan has the lengths that the plan gives: checks 1 to 4 pass

@@ -18,9 +18,10 @@ use Rattle.checks.proofs.Checks.{lengths-are}
 use Rattle.join.specs.Changes.{insertNumber, deleteNumber}
 use Rattle.lines.specs.declared.Word.{Word}
 use Rattle.lines.specs.declared.Word.the-variants.{DrawIn, DrawOut, SpotIn, SpotOut}
-use Rattle.session.specs.Session.{planOf, usedTuples, usedRows, wallOf, callNumber, changeLineNumber}
-use Rattle.session.specs.declared.Session.{Session}
-use Rattle.session.proofs.Reached.{Good, plan-legal}
+use Rattle.session_plan.specs.Lanes.{planOf, usedTuples, usedRows}
+use Rattle.session_plan.specs.declared.Session.{Session}
+use Rattle.session_plan.proofs.Plans.{Good, plan-legal}
+use Rattle.session.specs.Session.{wallOf, callNumber, changeLineNumber}
 
 -- some store is shorter than the plan's lanes
 abbrev pub Short : Session → Stores → Type 0

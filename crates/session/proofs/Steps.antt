@@ -13,11 +13,12 @@ use Rattle.checks.specs.Stores.{Stores}
 use Rattle.lines.specs.declared.Word.{Word}
 use Rattle.lines.specs.declared.Line.{Line}
 use Rattle.lines.specs.declared.Line.the-variants.{Lane, Change, Malformed}
-use Rattle.session.specs.Session.{withLane, grown, laneCheck, laneNumber, stepNumber, sessionWith}
+use Rattle.session_plan.specs.Lanes.{withLane, grown, laneCheck}
+use Rattle.session_plan.specs.declared.Session.{Session}
+use Rattle.session_plan.proofs.Lanes.{lane-passed, lane-added}
+use Rattle.session.specs.Session.{laneNumber, stepNumber, sessionWith}
 use Rattle.session.specs.Session.{sessionAfter, Taken, SteppedBy, WallOpening, WallChanging}
-use Rattle.session.specs.declared.Session.{Session}
 use Rattle.session.specs.declared.Stepped.{Stepped}
-use Rattle.session.proofs.Lanes.{lane-passed, lane-added}
 
 abbrev pub stepped : Session → ℕ → Stepped
 stepped s n = record { session = s; number = n }

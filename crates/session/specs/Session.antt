@@ -1,21 +1,18 @@
--- The program's work on one line (document 01, "Lines and the program"): the session, the words of the lent stores that
--- it uses, the number that a line gets, and what a line leaves.
--- The laws are in proofs/: Reached (the sessions that steps reach, their plans), Numbers (the numbers that they meet).
-use mathlib.Core.Bool.{Bool, false, not, _&&_, _||_}
+-- The program's work on one line (document 01, "Lines and the program"): the words of the lent stores that a session
+-- uses, the number that a line gets, and what a line leaves. The session, its plan, how many words its lanes use and
+-- the checks of a lane line are in crate `session_plan`.
+-- The laws are in proofs/: Reached (the sessions that steps reach), Numbers (the numbers that they meet).
+use mathlib.Core.Bool.{not}
 use mathlib.Core.List.{[], _∷_}
 use mathlib.Core.Path.{_≡_}
-use Prim.Native.Nat.{ℕ, _+_, _-_, _*_, _≤_, min}
-use lib.Dec.{leb, ltb, eqb}
-use lib.ListN.{length, getD, take, drop, set, replicate}
+use Prim.Native.Nat.{ℕ, _≤_}
+use lib.Dec.{eqb}
+use lib.ListN.{length, take, drop}
 use Rattle.lists.specs.Choice.{pick, refuseIf, firstOf}
 use Rattle.interval.specs.Time.{calendarEnd}
-use Rattle.interval.specs.Tuple.{tupleWidth, rowWidth}
 use Rattle.interval.specs.declared.time.Chronon.{Chronon}
 use Rattle.interval.specs.declared.tuple.Tuple.{Tuple}
-use Rattle.plan.specs.Plan.{mostPartitions, numbers}
 use Rattle.plan.specs.declared.Partitioning.{Partitioning}
-use Rattle.part.specs.Part.{roomOf}
-use Rattle.store.specs.Store.{tupleRoom, rowRoom}
 use Rattle.rows.specs.declared.Side.{Side}
 use Rattle.rows.specs.declared.Side.the-variants.{Outer, Inner}
 use Rattle.checks.specs.Stores.{Stores, stores, openNumber}
@@ -29,63 +26,11 @@ use Rattle.lines.specs.declared.Word.{Word}
 use Rattle.lines.specs.declared.Word.the-variants.{DrawIn, DrawOut, SpotIn, SpotOut}
 use Rattle.lines.specs.declared.Line.{Line}
 use Rattle.lines.specs.declared.Line.the-variants.{Lane, Change, Malformed}
-use Rattle.session.specs.declared.Session.{Session}
+use Rattle.session_plan.specs.Lanes.{planOf, withLane, usedTuples, usedRows, wallTupleWords, wallRowWords, laneCheck}
+use Rattle.session_plan.specs.declared.Session.{Session}
 use Rattle.session.specs.declared.Stepped.{Stepped}
 
--- ---- the session
-
--- "The program `wall` reads standard input with up to 8 lanes, 32 tuples and 64 rows a lane."
-abbrev pub wallPartitions : ℕ
-wallPartitions = 8
-
-abbrev pub wallTuples : ℕ
-wallTuples = 32
-
-abbrev pub wallRows : ℕ
-wallRows = 64
-
--- the most rows that the wall holds: 8 lanes of 64, 512
-abbrev pub wallRowsMost : ℕ
-wallRowsMost = wallPartitions * wallRows
-
--- before the first line: no lane, and 0 in every place
-abbrev pub fresh : Session
-fresh = record { lanes = 0; lasts = replicate mostPartitions (record { 0 = 0 }); complete = false }
-
--- the plan that the lanes taken so far make
-abbrev pub planOf : Session → Partitioning
-planOf s = record { count = s .lanes; lasts = s .lasts; tuples = wallTuples; rows = wallRows }
-
--- the session with one lane more; "the line with 99999999 completes the plan"
-abbrev pub withLane : Session → Chronon → Session
-withLane s m = record {
-  lanes = s .lanes + 1;
-  lasts = set (s .lasts) (s .lanes) m;
-  complete = eqb (m .0) calendarEnd;
-}
-
--- the same where there is room for a lane more: with 8 there is none
-abbrev pub grown : Session → Chronon → Session
-grown s m = pick (ltb (s .lanes) wallPartitions) (withLane s m) s
-
--- ---- the words in use: the first of each lent store, as many as the plan's lanes need, or all where there are fewer
-
-abbrev pub usedPartitions : Session → ℕ
-usedPartitions s = min (s .lanes) wallPartitions
-
--- 129 words a lane, 1 + 4 * 32, and 321, 1 + 5 * 64
-abbrev pub usedTuples : Session → ℕ
-usedTuples s = usedPartitions s * tupleRoom (planOf s)
-
-abbrev pub usedRows : Session → ℕ
-usedRows s = usedPartitions s * rowRoom (planOf s)
-
--- the words of 8 lanes of tuples (1,032), and of rows (2,568)
-abbrev pub wallTupleWords : ℕ
-wallTupleWords = wallPartitions * roomOf tupleWidth wallTuples
-
-abbrev pub wallRowWords : ℕ
-wallRowWords = wallPartitions * roomOf rowWidth wallRows
+-- ---- the lent stores, and the words in use
 
 -- lent stores that have the words of 8 lanes, as the program's have
 pub record EightPartitions (S : Stores) : Type 0 where
@@ -104,21 +49,6 @@ restOf s S =
     stores (drop (usedTuples s) (S .outer)) (drop (usedTuples s) (S .inner)) (drop (usedRows s) (S .rows))
 
 -- ---- a lane line
-
--- the last minute of the lane line before
-abbrev pub lastCut : Session → ℕ
-lastCut s = getD (numbers (s .lasts)) (s .lanes - 1) 0
-
--- "A lane line that isn't above the one before, or an eighth that isn't 99999999, gives 2 and is not counted". So does
--- a ninth, which cannot come up in a session that began with `fresh`: there the eighth completes the plan.
-unfoldable pub badLane : Session → ℕ → Bool
-badLane s m =
-    (ltb 0 (s .lanes) && leb m (lastCut s))
-    || ((leb (wallPartitions - 1) (s .lanes) && not (eqb m calendarEnd)) || leb wallPartitions (s .lanes))
-
--- 16 for "a lane line after" the plan is complete, which comes before all others; then 2
-unfoldable pub laneCheck : Session → ℕ → ℕ
-laneCheck s m = firstOf (refuseIf (s .complete) 16 ∷ (refuseIf (badLane s m) 2 ∷ []))
 
 -- the lane that completes the plan opens the wall, with open's own checks: 4 where a lent store is shorter than the
 -- plan needs, which only a direct caller can meet

@@ -16,7 +16,7 @@ use Rattle.lists.proofs.Choice.{bool-cases}
 use Rattle.text_buffer.specs.Buffer.{Put}
 use Rattle.report.specs.Text.{countLine}
 use Rattle.report.specs.Report.{reportNumber}
-use Rattle.session.specs.Session.{planOf, usedRows}
+use Rattle.session_plan.specs.Lanes.{planOf, usedRows}
 use Rattle.text_end.specs.Ending.{ReportEnded}
 use Rattle.text_end.specs.declared.Finished.{Finished}
 use Rattle.stream.specs.Finishing.{restText, finishRoom, finishNumber, FinishedBy}

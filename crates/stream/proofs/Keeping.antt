@@ -8,7 +8,7 @@ use native.Mathlib.Omega.{arith}
 use lib.ListN.{length, take, drop, length-append, length-drop, length-take}
 use lib.Seq.{take-append-add, take-append-seam, length-take-le}
 use Rattle.text_buffer.specs.Buffer.{Put}
-use Rattle.session.proofs.Walls.{lent-used}
+use Rattle.session_plan.proofs.Words.{lent-used}
 use Rattle.stream.specs.Taking.{keptMost, keptBytes, onto, withBytes}
 use Rattle.stream.specs.declared.Reading.{Reading}
 

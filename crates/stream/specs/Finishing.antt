@@ -11,7 +11,7 @@ use Rattle.refusal_text.specs.Refusals.{refusalRoom, unfinishedText}
 use Rattle.report.specs.Text.{countLine}
 use Rattle.report.specs.Report.{textRoom, reportNumber, ReportWritten}
 use Rattle.report.specs.declared.Reported.{Reported}
-use Rattle.session.specs.Session.{planOf, usedRows, wallRowsMost}
+use Rattle.session_plan.specs.Lanes.{planOf, usedRows, wallRowsMost}
 use Rattle.text_end.specs.declared.Finished.{Finished}
 use Rattle.stream.specs.Taking.{keptBytes, onto}
 use Rattle.stream.specs.declared.Reading.{Reading}

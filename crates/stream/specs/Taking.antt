@@ -14,8 +14,9 @@ use Rattle.lines.specs.Line.{lineLength, lineOf}
 use Rattle.lines.specs.declared.Line.{Line}
 use Rattle.text_buffer.specs.Buffer.{Put}
 use Rattle.refusal_text.specs.Refusals.{answerText, refusalRoom, nextLine, lineCount, refusals}
-use Rattle.session.specs.Session.{fresh, SteppedBy}
-use Rattle.session.specs.declared.Session.{Session}
+use Rattle.session_plan.specs.Lanes.{fresh}
+use Rattle.session_plan.specs.declared.Session.{Session}
+use Rattle.session.specs.Session.{SteppedBy}
 use Rattle.session.specs.declared.Stepped.{Stepped}
 use Rattle.stream.specs.Input.{isEnd, valuesAfter, restAfter}
 use Rattle.stream.specs.declared.Reading.{Reading}

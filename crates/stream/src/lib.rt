@@ -18,9 +18,9 @@ use lines::LINE_LENGTH;
 use refusal_text::REFUSAL_BYTES;
 use report::HEAD_BYTES;
 use report::ROW_BYTES;
-use session::PARTITIONS;
-use session::ROWS;
-use session::Session;
+use session_plan::PARTITIONS;
+use session_plan::ROWS;
+use session_plan::Session;
 use text_buffer::put_bytes;
 use text_end::Finished;
 
@@ -63,7 +63,7 @@ fn between_lines(session: Session, lines: u64) -> Reading
 pub fn start() -> Reading
     ensures { λ r. ⌜ r ≡ atStart ⌝ }
 {
-    between_lines(session::start(), 0)
+    between_lines(session_plan::start(), 0)
 }
 
 // Of `len` more bytes those that there is room for after the kept ones.

@@ -14,9 +14,9 @@ use Rattle.text_buffer.specs.Buffer.{Put}
 use Rattle.refusal_text.specs.Refusals.{unfinishedText}
 use Rattle.report.specs.Report.{ReportWritten}
 use Rattle.report.specs.declared.Reported.{Reported}
-use Rattle.session.specs.Session.{planOf, usedRows}
-use Rattle.session.specs.declared.Session.{Session}
-use Rattle.session.proofs.Walls.{lent-used, back-used, back-left, back-same}
+use Rattle.session_plan.specs.Lanes.{planOf, usedRows}
+use Rattle.session_plan.specs.declared.Session.{Session}
+use Rattle.session_plan.proofs.Words.{lent-used, back-used, back-left, back-same}
 use Rattle.text_end.specs.Ending.{restRefusal, ReportEnded}
 
 -- ---- the refusal of the bytes kept, of a line with room for some

@@ -9,8 +9,8 @@ use Rattle.lines.specs.declared.Line.the-variants.{Malformed}
 use Rattle.refusal_text.specs.Refusals.{refusalLine, nextLine}
 use Rattle.report.specs.Report.{ReportWritten}
 use Rattle.report.specs.declared.Reported.{Reported}
-use Rattle.session.specs.Session.{planOf, usedRows}
-use Rattle.session.specs.declared.Session.{Session}
+use Rattle.session_plan.specs.Lanes.{planOf, usedRows}
+use Rattle.session_plan.specs.declared.Session.{Session}
 use Rattle.text_end.specs.declared.Finished.{Finished}
 
 -- "an unfinished last line gives 15": the line after n lines, of which so many bytes are kept; of none there is no line

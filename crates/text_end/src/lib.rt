@@ -9,7 +9,7 @@ ghost use Rattle.text_buffer.specs.Buffer.{Put};
 ghost use Rattle.refusal_text.specs.Refusals.{refusalRoom};
 ghost use Rattle.report.specs.Text.{countLine};
 ghost use Rattle.text_end.specs.Ending.{restRefusal, ReportEnded};
-use session::Session;
+use session_plan::Session;
 use text_buffer::put_bytes;
 
 // What the end of the input gets: the refusal number (0: accepted) and how many bytes of text there are.
@@ -45,8 +45,8 @@ pub fn finish_report(s: Session, rest: &[u8], rows: &mut [u64], out: &mut [u8]) 
     ensures { λ r. ⌜ ReportEnded s (now (rest .entry))
         (now (rows .entry)) (now (out .entry)) (now (rows .exit)) (now (out .exit)) r ⌝ }
 {
-    let p = session::plan_of(s);
-    let used = session::used_rows(s, rows.len());
+    let p = session_plan::plan_of(s);
+    let used = session_plan::used_rows(s, rows.len());
     let n = rest.len();
     let written = report::write(p, &mut rows[..used], &mut out[n..]);
     if written.number != 0 {

@@ -30,14 +30,14 @@ use Rattle.lines.specs.declared.Word.{Word}
 use Rattle.lines.specs.declared.Word.the-variants.{DrawIn, DrawOut, SpotIn, SpotOut}
 use Rattle.lines.specs.declared.Line.{Line}
 use Rattle.lines.specs.declared.Line.the-variants.{Lane, Change, Malformed}
-use Rattle.session.specs.Session.{fresh, planOf, withLane, wallOf, laneCheck, laneNumber, Called}
-use Rattle.session.specs.Session.{changeLineNumber, WallChanged, LaneTaken, SteppedBy}
-use Rattle.session.specs.declared.Session.{Session}
+use Rattle.session_plan.specs.Lanes.{fresh, planOf, withLane, laneCheck}
+use Rattle.session_plan.specs.declared.Session.{Session}
+use Rattle.session_plan.proofs.Lanes.{lane-passed}
+use Rattle.session_plan.proofs.Plans.{Good, plan-legal}
+use Rattle.session.specs.Session.{wallOf, laneNumber, Called, changeLineNumber, WallChanged, LaneTaken, SteppedBy}
 use Rattle.session.specs.declared.Stepped.{Stepped}
-use Rattle.session.proofs.Lanes.{lane-passed}
 use Rattle.session.proofs.Steps.{after-accepted}
-use Rattle.session.proofs.Reached.{Reached, Good, good-after, reached-good, plan-legal}
-use Rattle.session.proofs.Reached.{begun as reached-start, then as reached-next}
+use Rattle.session.proofs.Reached.{Reached, good-after, reached-good, begun as reached-start, then as reached-next}
 use Rattle.transcript.specs.Transcript.{callOf, heard, Transcript, begun, then}
 
 pub record Holding (ts : List Told) (s : Session) (S : Stores) : Type 0 where

@@ -25,9 +25,11 @@ use Rattle.lines.specs.declared.Word.{Word}
 use Rattle.lines.specs.declared.Word.the-variants.{DrawIn, DrawOut, SpotIn, SpotOut}
 use Rattle.lines.specs.declared.Line.{Line}
 use Rattle.lines.specs.declared.Line.the-variants.{Lane, Change, Malformed}
-use Rattle.session.specs.Session.{EightPartitions, planOf, wallOf, laneNumber, callNumber, changeLineNumber, stepNumber}
-use Rattle.session.specs.declared.Session.{Session}
-use Rattle.session.proofs.Reached.{Good, reached-good}
+use Rattle.session_plan.specs.Lanes.{planOf}
+use Rattle.session_plan.specs.declared.Session.{Session}
+use Rattle.session_plan.proofs.Plans.{Good}
+use Rattle.session.specs.Session.{EightPartitions, wallOf, laneNumber, callNumber, changeLineNumber, stepNumber}
+use Rattle.session.proofs.Reached.{reached-good}
 use Rattle.session.proofs.Lengths.{reached-long}
 use Rattle.session.proofs.Numbers.{eight-partitions-as, first-met, refuse-ok, guarded-ok, among-more}
 use Rattle.session.proofs.Numbers.{laneNumbers, lane-met, Labelled, labelled}

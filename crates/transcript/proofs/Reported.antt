@@ -21,9 +21,10 @@ use Rattle.report.specs.Text.{rowCount}
 use Rattle.report.specs.Report.{textRoom, reportNumber}
 use Rattle.report.proofs.Bounds.{total-most, row-count}
 use Rattle.report.proofs.Reports.{passes}
-use Rattle.session.specs.Session.{wallRowsMost, planOf, wallOf}
-use Rattle.session.specs.declared.Session.{Session}
-use Rattle.session.proofs.Reached.{Good}
+use Rattle.session_plan.specs.Lanes.{wallRowsMost, planOf}
+use Rattle.session_plan.specs.declared.Session.{Session}
+use Rattle.session_plan.proofs.Plans.{Good}
+use Rattle.session.specs.Session.{wallOf}
 
 -- a sound store holds at most the plan's rows in each of its lanes
 rows-within : (p : Partitioning) (rows : List ℕ) → soundRows p rows ≡ true → rowCount p rows ≤ p .count * p .rows

@@ -17,10 +17,12 @@ use Rattle.report.specs.declared.Reported.{Reported}
 use Rattle.lines.specs.Line.{lineOf}
 use Rattle.lines.specs.declared.Line.{Line}
 use Rattle.lines.specs.declared.Line.the-variants.{Lane, Change, Malformed}
-use Rattle.session.specs.Session.{wallRowsMost, planOf, wallOf, SteppedBy}
-use Rattle.session.specs.declared.Session.{Session}
+use Rattle.session_plan.specs.Lanes.{wallRowsMost, planOf}
+use Rattle.session_plan.specs.declared.Session.{Session}
+use Rattle.session_plan.proofs.Plans.{Good}
+use Rattle.session.specs.Session.{wallOf, SteppedBy}
 use Rattle.session.specs.declared.Stepped.{Stepped}
-use Rattle.session.proofs.Reached.{Good, reached-good}
+use Rattle.session.proofs.Reached.{reached-good}
 use Rattle.transcript.specs.Transcript.{Transcript, begun, then}
 use Rattle.transcript.specs.Rows.{printedRows}
 use Rattle.transcript.specs.SessionKept.{Framed, AllFramed, Printed, SessionKept}

@@ -18,8 +18,9 @@ use Rattle.report.specs.declared.Reported.{Reported}
 use Rattle.lines.specs.Line.{lineOf}
 use Rattle.lines.specs.declared.Line.{Line}
 use Rattle.lines.specs.declared.Line.the-variants.{Lane, Change, Malformed}
-use Rattle.session.specs.Session.{wallRowsMost, EightPartitions, planOf, wallOf}
-use Rattle.session.specs.declared.Session.{Session}
+use Rattle.session_plan.specs.Lanes.{wallRowsMost, planOf}
+use Rattle.session_plan.specs.declared.Session.{Session}
+use Rattle.session.specs.Session.{EightPartitions, wallOf}
 use Rattle.transcript.specs.Transcript.{Transcript, begun, then}
 use Rattle.transcript.specs.Rows.{printedRows}
 

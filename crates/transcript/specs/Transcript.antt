@@ -11,8 +11,9 @@ use Rattle.lines.specs.declared.Word.{Word}
 use Rattle.lines.specs.declared.Word.the-variants.{DrawIn, DrawOut, SpotIn, SpotOut}
 use Rattle.lines.specs.declared.Line.{Line}
 use Rattle.lines.specs.declared.Line.the-variants.{Lane, Change, Malformed}
-use Rattle.session.specs.Session.{fresh, SteppedBy}
-use Rattle.session.specs.declared.Session.{Session}
+use Rattle.session_plan.specs.Lanes.{fresh}
+use Rattle.session_plan.specs.declared.Session.{Session}
+use Rattle.session.specs.Session.{SteppedBy}
 use Rattle.session.specs.declared.Stepped.{Stepped}
 
 -- the call that a change asks for: `drawin` and `spotin` insert, `drawout` and `spotout` withdraw

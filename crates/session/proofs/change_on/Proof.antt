@@ -3,8 +3,9 @@
 -- Assumes nothing.
 use borrow.Author.Tests.{not-true, not-false}
 use Rattle.checks.specs.Stores.{stores}
-use Rattle.session.specs.Session.{usedTuples, usedRows}
-use Rattle.session.proofs.Walls.{lent-long, called-as, change-early, wall-changing}
+use Rattle.session_plan.specs.Lanes.{usedTuples, usedRows}
+use Rattle.session_plan.proofs.Words.{lent-long}
+use Rattle.session.proofs.Walls.{called-as, change-early, wall-changing}
 use borrow.Author.Needs.{needs}
 use Rattle.session.proofs.change_on.Statement.{statement}
 use Rattle.session.proofs.change_on.Tie as tie

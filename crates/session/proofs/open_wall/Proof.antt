@@ -1,7 +1,8 @@
 -- `session::open_wall` meets its contract: the words in use are lent to `join::open` and put back.
 -- Assumes nothing.
-use Rattle.session.specs.Session.{usedTuples, usedRows}
-use Rattle.session.proofs.Walls.{lent-long, wall-opening}
+use Rattle.session_plan.specs.Lanes.{usedTuples, usedRows}
+use Rattle.session_plan.proofs.Words.{lent-long}
+use Rattle.session.proofs.Walls.{wall-opening}
 use borrow.Author.Needs.{needs}
 use Rattle.session.proofs.open_wall.Statement.{statement}
 use Rattle.session.proofs.open_wall.Tie as tie

@@ -9,7 +9,7 @@ use lib.ListN.{length, take, length-take}
 use lib.Seq.{length-take-le}
 use Rattle.checks.specs.Stores.{stores}
 use Rattle.refusal_text.specs.Refusals.{refusalRoom}
-use Rattle.session.specs.Session.{wallTupleWords, wallRowWords}
+use Rattle.session_plan.specs.Lanes.{wallTupleWords, wallRowWords}
 use Rattle.stream.specs.Taking.{atStart}
 use Rattle.stream.specs.Finishing.{finishRoom}
 use Rattle.stream.specs.declared.Reading.{Reading}

@@ -14,8 +14,8 @@ use Rattle.lists.proofs.Choice.{first-none, refuse-none, pick-true, pick-false}
 use Rattle.interval.specs.Time.{calendarEnd}
 use Rattle.interval.specs.declared.time.Chronon.{Chronon}
 use Rattle.plan.proofs.Homes.{le-or-lt, readAt}
-use Rattle.session.specs.Session.{wallPartitions, withLane, grown, lastCut, badLane, laneCheck}
-use Rattle.session.specs.declared.Session.{Session}
+use Rattle.session_plan.specs.Lanes.{wallPartitions, withLane, grown, lastCut, badLane, laneCheck}
+use Rattle.session_plan.specs.declared.Session.{Session}
 
 -- the last minute of the lane before, as the code reads it
 pub last-cut : (s : Session) → lastCut s ≡ readAt (s .lasts) (s .lanes - 1)

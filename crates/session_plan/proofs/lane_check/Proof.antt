@@ -1,14 +1,14 @@
--- `session::lane_check` meets its contract: the check that applies answers.
+-- `session_plan::lane_check` meets its contract: the check that applies answers.
 -- Assumes nothing.
 use mathlib.Core.Logic.{⊎-elim}
 use Prim.Native.Nat.{_<_}
 use native.Mathlib.Omega.{arith}
-use Rattle.session.specs.Session.{lastCut}
-use Rattle.session.specs.declared.Session.{Session}
-use Rattle.session.proofs.Lanes.{last-cut, bad-ninth, bad-low, bad-early, lane-late, lane-bad, lane-good}
+use Rattle.session_plan.specs.Lanes.{lastCut}
+use Rattle.session_plan.specs.declared.Session.{Session}
+use Rattle.session_plan.proofs.Lanes.{last-cut, bad-ninth, bad-low, bad-early, lane-late, lane-bad, lane-good}
 use borrow.Author.Needs.{needs}
-use Rattle.session.proofs.lane_check.Statement.{statement}
-use Rattle.session.proofs.lane_check.Tie as tie
+use Rattle.session_plan.proofs.lane_check.Statement.{statement}
+use Rattle.session_plan.proofs.lane_check.Tie as tie
 
 returns : tie.Need-returns
 returns c =

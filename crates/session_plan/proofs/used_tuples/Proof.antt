@@ -1,9 +1,10 @@
--- `session::used_tuples` meets its contract: the words of the lanes in use, or all of the store where there are fewer.
+-- `session_plan::used_tuples` meets its contract: the words of the lanes in use, or all of the store where there are
+-- fewer.
 -- Assumes nothing.
 use native.Mathlib.Omega.{arith}
 use borrow.Author.Needs.{needs}
-use Rattle.session.proofs.used_tuples.Statement.{statement}
-use Rattle.session.proofs.used_tuples.Tie as tie
+use Rattle.session_plan.proofs.used_tuples.Statement.{statement}
+use Rattle.session_plan.proofs.used_tuples.Tie as tie
 
 used-partitions-requires : tie.Need-used-partitions-requires
 used-partitions-requires c κs = search needs

@@ -1,9 +1,9 @@
--- `session::with_lane` meets its contract.
+-- `session_plan::with_lane` meets its contract.
 -- Assumes nothing.
-use Rattle.session.proofs.Lanes.{lane-added, lane-beyond}
+use Rattle.session_plan.proofs.Lanes.{lane-added, lane-beyond}
 use borrow.Author.Needs.{needs}
-use Rattle.session.proofs.with_lane.Statement.{statement}
-use Rattle.session.proofs.with_lane.Tie as tie
+use Rattle.session_plan.proofs.with_lane.Statement.{statement}
+use Rattle.session_plan.proofs.with_lane.Tie as tie
 
 returns : tie.Need-returns
 returns c =
