@@ -13,6 +13,7 @@ import shutil
 import subprocess
 import sys
 import tempfile
+import threading
 
 ROOT = Path(__file__).resolve().parent.parent
 STOPS_AFTER = 180       # seconds
@@ -555,13 +556,20 @@ def build(folder, program, edit=None):
         fail(f'rustc refuses {edit or "the unchanged sources"}:\n{built.stdout}')
     return folder / 'program'
 
-# Whether join_cases writes what it should; not where it stops with an error or does not end.
+# Whether join_cases writes what it should; not where it stops with an error or does not end. What it writes is compared
+# as it comes: at the first byte that differs it is stopped.
 def writes(program):
-    try:
-        ran = subprocess.run([program], stdout=subprocess.PIPE, stderr=subprocess.DEVNULL, timeout=STOPS_AFTER)
-    except subprocess.TimeoutExpired:
-        return False
-    return ran.returncode == 0 and ran.stdout == (ROOT / 'crates' / 'join_cases' / 'stdout').read_bytes()
+    wanted = (ROOT / 'crates' / 'join_cases' / 'stdout').read_bytes()
+    with subprocess.Popen([program], stdout=subprocess.PIPE, stderr=subprocess.DEVNULL) as ran:
+        late = threading.Timer(STOPS_AFTER, ran.kill)
+        late.start()
+        written = b''
+        while wanted.startswith(written) and (more := ran.stdout.read1(4096)):
+            written += more
+        late.cancel()
+        if written != wanted:
+            ran.kill()
+    return ran.returncode == 0 and written == wanted
 
 # Whether the tests of wall are content.
 def contents(program):

@@ -115,9 +115,9 @@ pub fn lent_number(plan: &[u64], right: bool) -> u64
     if right {
         return 0;
     }
-    let number = plan::plan_number(plan_in(plan));
-    if number != 0 {
-        return number;
+    let own = plan::plan_number(plan_in(plan));
+    if own != 0 {
+        return own;
     }
     4
 }
