@@ -447,6 +447,9 @@ WALL = [
     ('wall/channel.rt', 'tell(b"wall: read: error ", error);', ''),
     ('wall/channel.rt', 'tell(b"wall: write: error ", error);', 'tell(b"wall: read: error ", error);'),
     ('wall/channel.rt', 'write_all(STDERR_FILENO, &line[..n]);', 'write_all(STDOUT_FILENO, &line[..n]);'),
+    # what a line's word does
+    ('session/lib.rt', 'Word::SpotOut => Kind::Delete,', 'Word::SpotOut => Kind::Insert,'),
+    ('session/lib.rt', 'Word::DrawOut => Side::Outer,', 'Word::DrawOut => Side::Inner,'),
     # the text
     ('stream/lib.rt', 'let mut end = lines::place_of(part, LINE_END);', 'let mut end = lines::place_of(part, 13);'),
     ('refusal_text/lib.rt', 'if number == 0 {', 'if number != 0 {'),
