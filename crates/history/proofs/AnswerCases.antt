@@ -49,7 +49,8 @@ held = record {
 -- ---- the tables
 
 -- accepted: a drawing that makes no row, one whose row is the one that lane 2 has room for, a spot. Then 6, 7; 8, also
--- where 9 applies too; 9, also where 10 does; 10, of a drawing of lane 2 whose row ends in lane 1, and of a spot
+-- where 9 applies too, and past the calendar; 17, of a span that begins in the calendar and of one that does not; 9,
+-- also where 10 does; 10, of a drawing of lane 2 whose row ends in lane 1, and of a spot
 abbrev inserts : List Case
 inserts =
     case Outer (tuple 38 12 33 40) 0
@@ -58,7 +59,9 @@ inserts =
     ∷ case Outer (tuple 0 12 33 35) 6
     ∷ case Outer (tuple 38 1000000 33 35) 7
     ∷ case Outer (tuple 38 12 34 33) 8
-    ∷ case Outer (tuple 38 12 33 100000000) 8
+    ∷ case Outer (tuple 38 12 100000001 100000000) 8
+    ∷ case Outer (tuple 38 12 33 100000000) 17
+    ∷ case Inner (tuple 38 2 100000000 100000000) 17
     ∷ case Outer (tuple 38 12 33 34) 9
     ∷ case Outer (tuple 38 12 31 34) 9
     ∷ case Outer (tuple 38 12 31 40) 10
@@ -71,8 +74,8 @@ unfolding insertAnswer partitionFull rowsPass firstOf tupleNumber labelCheck ite
     homeOf cutsOf joinOf rowsOfPair sameLabel overlap
 inserts-hold = refl
 
--- accepted: a drawing and a spot that are there. Then 6, 7, 8; 11, of a drawing with another last minute, and of one
--- that is a spot's
+-- accepted: a drawing and a spot that are there. Then 6, 7, 8, 17; 11, of a drawing with another last minute, and of
+-- one that is a spot's
 abbrev deletes : List Case
 deletes =
     case Outer (tuple 38 11 32 32) 0
@@ -80,6 +83,7 @@ deletes =
     ∷ case Outer (tuple 0 11 32 32) 6
     ∷ case Outer (tuple 38 1000000 32 32) 7
     ∷ case Outer (tuple 38 11 32 31) 8
+    ∷ case Outer (tuple 38 11 32 100000000) 17
     ∷ case Outer (tuple 38 11 32 33) 11
     ∷ case Outer (tuple 38 1 31 31) 11
     ∷ []

@@ -1,9 +1,9 @@
 -- Closed cases that compute, from the definitions that the promises cite: document 01's P2 and P3, the ends of the
--- calendar, equal ends, nested and touching spans, each of checks 6 to 8, equality in all words, and the order of a
--- record's words. Those of labels are in the crate `label`.
+-- calendar, equal ends, nested and touching spans, each of checks 6, 7, 8 and 17, equality in all words, and the order
+-- of a record's words. Those of labels are in the crate `label`.
 -- Assumes nothing.
 use mathlib.Core.Bool.{true, false}
-use mathlib.Core.List.{List, [], _∷_}
+use mathlib.Core.List.{List, [], _∷_, map}
 use mathlib.Core.Path.{_≡_, refl}
 use Prim.Native.Nat.{ℕ}
 use Rattle.lists.specs.Choice.{firstOf}
@@ -50,29 +50,33 @@ unfolding overlap overlaps Overlaps
 overlaps-hold = (refl, (refl, (refl, (refl, (refl, (refl, (refl, (refl, (refl, tt)))))))))
 
 -- a tuple of four words, and its number: legal at both ends of each range, and each check at its first illegal value;
--- the first check that applies answers
+-- the first check that applies answers. Past the calendar with both ends, and as far as words go, is 17; backward is 8,
+-- also past the calendar, by its first minute alone or by both; 6 and 7 come before
 checks : List (Tuple × ℕ)
 checks =
     (tuple 1 0 0 0, 0)
-    ∷ ((tuple 217180147158 999999 99999999 99999999, 0)
-    ∷ ((tuple 1 0 0 99999999, 0)
-    ∷ ((tuple 0 0 0 0, 6)
-    ∷ ((tuple 217180147159 0 0 0, 6)
-    ∷ ((tuple 1 1000000 0 0, 7)
-    ∷ ((tuple 1 0 1 0, 8)
-    ∷ ((tuple 1 0 0 100000000, 8)
-    ∷ ((tuple 1 0 100000001 100000000, 8)
-    ∷ ((tuple 0 1000000 1 0, 6)
-    ∷ ((tuple 1 1000000 1 0, 7)
-    ∷ []))))))))))
+    ∷ (tuple 217180147158 999999 99999999 99999999, 0)
+    ∷ (tuple 1 0 0 99999999, 0)
+    ∷ (tuple 0 0 0 0, 6)
+    ∷ (tuple 217180147159 0 0 0, 6)
+    ∷ (tuple 1 1000000 0 0, 7)
+    ∷ (tuple 1 0 1 0, 8)
+    ∷ (tuple 1 0 100000000 99999999, 8)
+    ∷ (tuple 1 0 100000001 100000000, 8)
+    ∷ (tuple 1 0 18446744073709551615 18446744073709551614, 8)
+    ∷ (tuple 1 0 0 100000000, 17)
+    ∷ (tuple 1 0 100000000 100000000, 17)
+    ∷ (tuple 1 0 0 18446744073709551615, 17)
+    ∷ (tuple 1 0 18446744073709551615 18446744073709551615, 17)
+    ∷ (tuple 0 1000000 1 0, 6)
+    ∷ (tuple 1 1000000 1 0, 7)
+    ∷ (tuple 0 0 0 100000000, 6)
+    ∷ (tuple 1 1000000 0 100000000, 7)
+    ∷ []
 
-Checks : List (Tuple × ℕ) → Type 0
-Checks [] = Unit {0}
-Checks (c ∷ cs) = (tupleNumber (c .0) ≡ c .1) × Checks cs
-
-checks-hold : Checks checks
-unfolding checks Checks firstOf labelCheck itemCheck validCheck tupleNumber
-checks-hold = (refl, (refl, (refl, (refl, (refl, (refl, (refl, (refl, (refl, (refl, (refl, tt)))))))))))
+checks-hold : map (λ (c : Tuple × ℕ). tupleNumber (c .0)) checks ≡ map (λ (c : Tuple × ℕ). c .1) checks
+unfolding checks firstOf labelCheck itemCheck validCheck tupleNumber
+checks-hold = refl
 
 -- a row is legal by its label, both numbers and its span
 rows-hold :
@@ -82,8 +86,9 @@ rows-hold :
     × (legalRow (row 1 1 1000000 0 0) ≡ false)
     × (legalRow (row 1 1 1 1 0) ≡ false)
     × (legalRow (row 1 1 1 0 100000000) ≡ false)
+    × (legalRow (row 1 1 1 100000001 100000000) ≡ false)
 unfolding firstOf labelCheck itemCheck validCheck rowNumber legalRow
-rows-hold = (refl, refl, refl, refl, refl, refl)
+rows-hold = (refl, refl, refl, refl, refl, refl, refl)
 
 -- tuples that differ in one word are not equal
 same-hold :

@@ -1,7 +1,7 @@
--- Laws of tuples and rows: their words there and back, and read one by one; equality in all words is equality; what a
--- legal tuple, a legal row is, and that such a one passes each check.
+-- Laws of tuples and rows: their words there and back, and read one by one; equality in all words is equality; the
+-- number of a reversed span and of a late one; what a legal tuple, a legal row is, and that such a one passes each check.
 -- Assumes nothing.
-use mathlib.Core.Bool.{Bool, true, false, _&&_, _||_}
+use mathlib.Core.Bool.{Bool, true, false, _&&_}
 use mathlib.Core.List.{List, [], _∷_}
 use mathlib.Core.Path.{_≡_, refl, sym}
 use Prim.Native.Nat.{ℕ, zero, suc, _+_, _≤_, _<_}
@@ -10,12 +10,11 @@ use native.Mathlib.Omega.{arith}
 use lib.ListN.{length, getD}
 use lib.Seq.{ext-getD}
 use lib.Dec.{ltb, eqb}
-use borrow.Author.Tests.{eqb-true, eq-eqb, le-ltb, ltb-false}
-use Rattle.lists.specs.Choice.{firstOf}
+use borrow.Author.Tests.{eqb-true, eq-eqb, lt-ltb, le-ltb, ltb-false}
+use Rattle.lists.specs.Choice.{refuseIf, firstOf}
 use Rattle.lists.specs.Same.{IsEquality}
 use Rattle.lists.specs.Words.{partAt}
-use Rattle.lists.proofs.Choice.{and-left, and-right, and-both, or-none, or-neither-left, or-neither-right}
-use Rattle.lists.proofs.Choice.{refuse-none, refuse-passed, first-none}
+use Rattle.lists.proofs.Choice.{and-left, and-right, and-both, refuse-none, first-none}
 use Rattle.lists.proofs.Parts.{reads-part}
 use Rattle.label.specs.Label.{labelCheck}
 use Rattle.interval.specs.Time.{calendarEnd}
@@ -118,24 +117,28 @@ same-row-is = record {
       (equal-both (r .inner) (sameInterval (r .valid) (r .valid)) (same-interval-is .itself (r .valid))));
 }
 
--- ---- an interval that passes check 8
+-- ---- an interval entered backward, one that runs past the calendar, and one that passes both checks
+
+pub reversed-is : (v : Interval) → v .last .0 < v .first .0 → validCheck v ≡ 8
+unfolding validCheck firstOf
+reversed-is v h = rw (lt-ltb (v .last .0) (v .first .0) h)
+
+pub late-is : (v : Interval) → v .first .0 ≤ v .last .0 → calendarEnd < v .last .0 → validCheck v ≡ 17
+unfolding validCheck firstOf
+late-is v lo late = rw (le-ltb (v .last .0) (v .first .0) lo, lt-ltb calendarEnd (v .last .0) late)
+
+pub ok-valid : (v : Interval) → v .first .0 ≤ v .last .0 → v .last .0 ≤ calendarEnd → validCheck v ≡ 0
+unfolding validCheck firstOf
+ok-valid v lo hi = rw (le-ltb (v .last .0) (v .first .0) lo, le-ltb calendarEnd (v .last .0) hi)
 
 pub valid-ok : (v : Interval) → validCheck v ≡ 0 → (v .first .0 ≤ v .last .0) × (v .last .0 ≤ calendarEnd)
 unfolding validCheck
 valid-ok v e =
-    let h = refuse-none (ltb (v .last .0) (v .first .0) || ltb calendarEnd (v .last .0)) 7 e in (
-      ltb-false (v .last .0) (v .first .0)
-          (or-neither-left (ltb (v .last .0) (v .first .0)) (ltb calendarEnd (v .last .0)) h),
-      ltb-false calendarEnd (v .last .0) (or-neither-right (ltb (v .last .0) (v .first .0))
-          (ltb calendarEnd (v .last .0)) h),
+    let a = first-none (refuseIf (ltb (v .last .0) (v .first .0)) 8) _ e in
+    let b = first-none (refuseIf (ltb calendarEnd (v .last .0)) 17) _ (a .1) in (
+      ltb-false (v .last .0) (v .first .0) (refuse-none (ltb (v .last .0) (v .first .0)) 7 (a .0)),
+      ltb-false calendarEnd (v .last .0) (refuse-none (ltb calendarEnd (v .last .0)) 16 (b .0)),
     )
-
-pub ok-valid : (v : Interval) → v .first .0 ≤ v .last .0 → v .last .0 ≤ calendarEnd → validCheck v ≡ 0
-unfolding validCheck
-ok-valid v lo hi =
-    refuse-passed (ltb (v .last .0) (v .first .0) || ltb calendarEnd (v .last .0)) 8
-    (or-none (ltb (v .last .0) (v .first .0)) (ltb calendarEnd (v .last .0)) (le-ltb (v .last .0) (v .first .0) lo)
-    (le-ltb calendarEnd (v .last .0) hi))
 
 -- ---- a legal tuple, a legal row
 

@@ -1,6 +1,6 @@
 -- Tuples and rows: their words, their checks, their equality.
 -- The laws are in proofs/Tuples.antt.
-use mathlib.Core.Bool.{Bool, _&&_, _||_}
+use mathlib.Core.Bool.{Bool, _&&_}
 use mathlib.Core.List.{List, [], _∷_}
 use Prim.Native.Nat.{ℕ}
 use lib.ListN.{getD}
@@ -56,15 +56,17 @@ rowOf ws = row (getD ws 0 0) (getD ws 1 0) (getD ws 2 0) (getD ws 3 0) (getD ws 
 unfoldable pub itemCheck : ℕ → ℕ
 itemCheck n = refuseIf (ltb itemEnd n) 7
 
--- check 8: first after last, or last above 99,999,999
+-- checks 8 and 17 (document 02, (c)): "a span entered backward" "keeps 8, also where both errors are present"; one "that
+-- runs past the calendar", "with first not after last and last above 99,999,999, gets 17, checked straight after 8"
 unfoldable pub validCheck : Interval → ℕ
-validCheck v = refuseIf (ltb (v .last .0) (v .first .0) || ltb calendarEnd (v .last .0)) 8
+validCheck v =
+    firstOf (refuseIf (ltb (v .last .0) (v .first .0)) 8 ∷ (refuseIf (ltb calendarEnd (v .last .0)) 17 ∷ []))
 
--- checks 6 to 8 of a tuple, in that order
+-- checks 6, 7, 8 and 17 of a tuple, in that order
 unfoldable pub tupleNumber : Tuple → ℕ
 tupleNumber t = firstOf (labelCheck (t .label) ∷ (itemCheck (t .item) ∷ (validCheck (t .valid) ∷ [])))
 
--- "A tuple is legal if none of 6 to 8 below applies to it."
+-- "A tuple is legal if none of 6 to 8 below applies to it", nor 17: "Neither is legal in a stored tuple or row."
 unfoldable pub legalTuple : Tuple → Bool
 legalTuple t = eqb (tupleNumber t) 0
 

@@ -1,5 +1,5 @@
-// Tuples and rows: their checks 6 to 8; their equality. No order of calls, no cost beyond a few comparisons. Their
-// words are read and written by the crate `encoding`.
+// Tuples and rows: their checks 6, 7, 8 and 17; their equality. No order of calls, no cost beyond a few comparisons.
+// Their words are read and written by the crate `encoding`.
 ghost use mathlib.Core.Path.{_≡_};
 ghost use Rattle.label.specs.Label.{labelCheck};
 ghost use Rattle.interval.specs.Tuple.{itemCheck, validCheck, tupleNumber, rowNumber, sameLabel, sameInterval};
@@ -50,6 +50,7 @@ fn item_check(item: u64) -> u64
     if ITEM_END < item { 7 } else { 0 }
 }
 
+// A span entered backward gets 8, one that runs past the calendar 17, one that does both 8.
 fn valid_check(valid: Interval) -> u64
     ensures { λ r. ⌜ r ≡ validCheck valid ⌝ }
 {
@@ -57,12 +58,12 @@ fn valid_check(valid: Interval) -> u64
         return 8;
     }
     if CALENDAR_END < valid.last.0 {
-        return 8;
+        return 17;
     }
     0
 }
 
-// Checks 6 to 8 of a tuple: the number of the first that applies, 0 if none does.
+// Checks 6, 7, 8 and 17 of a tuple, in that order: the number of the first that applies, 0 if none does.
 pub fn tuple_number(t: Tuple) -> u64
     ensures { λ r. ⌜ r ≡ tupleNumber t ⌝ }
 {

@@ -1,11 +1,11 @@
 -- The numbers that a session from `fresh` can meet, where the lent stores have the words of 8 lanes (1,032, 1,032 and
--- 2,568) and each line was read by the reader: 1, 3, 4, 6, 13 and 14 are never given.
+-- 2,568) and each line was read by the reader: 1, 3, 4, 6, 13, 14 and 17 are never given.
 -- In order: the wall fits the plan, so checks 1 to 4 pass; the first check that applies, among given numbers; a lane
 -- line, a change, a line; the theorem (`numbers-met`). It leaves 5, which a sound wall never gets (`change-sound`), and
 -- 12, which needs store 3 to lack a row: that a session's own steps keep its wall sound and its rows right follows from
 -- demand 3, of the calls, and is shown above this crate, in `transcript`.
 -- Assumes nothing.
-use mathlib.Core.Bool.{Bool, true, false, not, _&&_, _||_, false≢true}
+use mathlib.Core.Bool.{Bool, true, false, not, _&&_, false≢true}
 use mathlib.Core.List.{List, [], _∷_}
 use mathlib.Core.Logic.{⊎-elim}
 use mathlib.Core.Path.{_≡_, refl, _∙_, ap}
@@ -13,15 +13,13 @@ use Prim.Native.Nat.{ℕ, zero, suc, _≤_}
 use native.Mathlib.Omega.{arith}
 use lib.Dec.{ltb, eqb}
 use lib.ListN.{length, take, length-take}
-use borrow.Author.Tests.{eqb-true}
+use borrow.Author.Tests.{eqb-true, le-ltb}
 use Rattle.lists.specs.Choice.{pick, refuseIf, firstOf}
 use Rattle.lists.specs.Members.{all, any}
 use Rattle.lists.proofs.Choice.{bool-cases, and-left, and-right, and-both, or-right, first-here, pick-true, pick-false}
-use Rattle.label.specs.Label.{labelCheck}
 use Rattle.interval.specs.Time.{calendarEnd}
-use Rattle.interval.specs.Tuple.{itemEnd, tupleNumber, itemCheck, validCheck, sameTuple}
+use Rattle.interval.specs.Tuple.{itemEnd, from, to, tupleNumber, itemCheck, validCheck, sameTuple}
 use Rattle.interval.specs.declared.time.Chronon.{Chronon}
-use Rattle.interval.specs.declared.time.Interval.{Interval}
 use Rattle.interval.specs.declared.tuple.Tuple.{Tuple}
 use Rattle.plan.specs.declared.Partitioning.{Partitioning}
 use Rattle.store.specs.Store.{fitsTuples, fitsRows, storedTuples, storedRows}
@@ -39,7 +37,7 @@ use Rattle.lines.specs.declared.Word.{Word}
 use Rattle.lines.specs.declared.Word.the-variants.{DrawIn, DrawOut, SpotIn, SpotOut}
 use Rattle.lines.specs.declared.Line.{Line}
 use Rattle.lines.specs.declared.Line.the-variants.{Lane, Change, Malformed}
-use Rattle.lines.proofs.Printed.{line-change-bounds}
+use Rattle.lines.proofs.Printed.{ChangeBounds, line-change-bounds}
 use Rattle.session_plan.specs.Lanes.{planOf, withLane, usedTuples, usedRows, wallTupleWords, badLane, laneCheck}
 use Rattle.session_plan.specs.declared.Session.{Session}
 use Rattle.session_plan.proofs.Lanes.{lane-passed}
@@ -153,35 +151,30 @@ module _ (s : Session) (m : Chronon) (S : Stores) (g : Good s) (y : EightPartiti
   pub lane-met : among laneNumbers (laneNumber s m S) ≡ true
   lane-met = rw lane-number-is check-met
 
--- ---- a change whose label is legal
+-- ---- a change that was read from a line
+
+-- Checks 6, 7, 8 and 17: its label is legal, and its LAST has at most eight digits, so that its last minute lies in the
+-- calendar and it gets no 17.
+pub tuple-met : (ok : ℕ → Bool) → ok 0 ≡ true → ok 7 ≡ true → ok 8 ≡ true → (t : Tuple) → ChangeBounds t
+    → ok (tupleNumber t) ≡ true
+unfolding tupleNumber itemCheck validCheck
+tuple-met ok z seven eight t b =
+    let late : ok (refuseIf (ltb calendarEnd (to t)) 17) ≡ true = rw (le-ltb calendarEnd (to t) (b .last)) z in
+    let span = and-both _ _ (refuse-ok ok (ltb (to t) (from t)) 8 z eight) (and-both _ _ late refl) in
+    first-met ok _ z
+    (and-both _ _ (ap ok (b .label) ∙ z)
+    (and-both _ _ (refuse-ok ok (ltb itemEnd (t .item)) 7 z seven) (and-both _ _ (first-met ok _ z span) refl)))
 
 module _ (ok : ℕ → Bool) (more : (n : ℕ) → among changeNumbers n ≡ true → ok n ≡ true) where
-  -- checks 7 and 8
-  item-met : (n : ℕ) → ok (itemCheck n) ≡ true
-  unfolding itemCheck
-  item-met n = refuse-ok ok (ltb itemEnd n) 7 (more 0 refl) (more 7 refl)
-
-  valid-met : (v : Interval) → ok (validCheck v) ≡ true
-  unfolding validCheck
-  valid-met v =
-      refuse-ok ok (ltb (v .last .0) (v .first .0) || ltb calendarEnd (v .last .0)) 8 (more 0 refl) (more 8 refl)
-
-  tuple-met : (t : Tuple) → labelCheck (t .label) ≡ 0 → ok (tupleNumber t) ≡ true
-  unfolding tupleNumber
-  tuple-met t l =
-      first-met ok _ (more 0 refl)
-      (and-both _ _ (ap ok l ∙ more 0 refl)
-      (and-both _ _ (item-met (t .item)) (and-both _ _ (valid-met (t .valid)) refl)))
-
   -- a call, where checks 1 to 5 give such a number
-  module _ (p : Partitioning) (t : Tuple) (S : Stores) (l : labelCheck (t .label) ≡ 0)
+  module _ (p : Partitioning) (t : Tuple) (S : Stores) (l : ChangeBounds t)
       (e : ok (storeNumber p S) ≡ true) where
     two-met : (b c : Bool) (i j : ℕ) → ok i ≡ true → ok j ≡ true
         → ok (firstOf (storeNumber p S ∷ (tupleNumber t ∷ (refuseIf b i ∷ (refuseIf c j ∷ []))))) ≡ true
     two-met b c i j h k =
         first-met ok _ (more 0 refl)
         (and-both _ _ e
-        (and-both _ _ (tuple-met t l)
+        (and-both _ _ (tuple-met ok (more 0 refl) (more 7 refl) (more 8 refl) t l)
         (and-both _ _ (refuse-ok ok b i (more 0 refl) h) (and-both _ _ (refuse-ok ok c j (more 0 refl) k) refl))))
 
     insert-met : (side : Side) → ok (insertNumber p side t S) ≡ true
@@ -204,7 +197,7 @@ module _ (ok : ℕ → Bool) (more : (n : ℕ) → among changeNumbers n ≡ tru
     call-met SpotOut = delete-met Inner
 
   -- a change, where checks 1 to 5 of a complete plan do
-  change-by : (s : Session) (w : Word) (t : Tuple) (S : Stores) → labelCheck (t .label) ≡ 0
+  change-by : (s : Session) (w : Word) (t : Tuple) (S : Stores) → ChangeBounds t
       → (s .complete ≡ true → ok (storeNumber (planOf s) (wallOf s S)) ≡ true) → ok (changeLineNumber s w t S) ≡ true
   unfolding changeLineNumber
   change-by s w t S l e =
@@ -212,7 +205,7 @@ module _ (ok : ℕ → Bool) (more : (n : ℕ) → among changeNumbers n ≡ tru
       (λ c. call-met (planOf s) t (wallOf s S) l (e c) w)
 
 module _ (s : Session) (w : Word) (t : Tuple) (S : Stores) (g : Good s) (y : EightPartitions S)
-    (l : labelCheck (t .label) ≡ 0) where
+    (l : ChangeBounds t) where
   -- on any wall: 5 too
   pub change-met : among (5 ∷ changeNumbers) (changeLineNumber s w t S) ≡ true
   change-met =
@@ -240,13 +233,13 @@ module _ (s : Session) (w : Word) (t : Tuple) (S : Stores) (g : Good s) (y : Eig
 abbrev pub stepNumbers : List ℕ
 stepNumbers = 0 ∷ (2 ∷ (5 ∷ (7 ∷ (8 ∷ (9 ∷ (10 ∷ (11 ∷ (12 ∷ (15 ∷ (16 ∷ []))))))))))
 
--- the reader gives legal labels
-abbrev pub Labelled : Line → Type 0
-Labelled (Lane m) = Unit {0}
-Labelled (Change w t) = labelCheck (t .label) ≡ 0
-Labelled Malformed = Unit {0}
+-- the reader gives legal labels and numbers of at most eight digits
+abbrev pub Bounded : Line → Type 0
+Bounded (Lane m) = Unit {0}
+Bounded (Change w t) = ChangeBounds t
+Bounded Malformed = Unit {0}
 
-pub step-met : (s : Session) (line : Line) (S : Stores) → Good s → EightPartitions S → Labelled line
+pub step-met : (s : Session) (line : Line) (S : Stores) → Good s → EightPartitions S → Bounded line
     → among stepNumbers (stepNumber s line S) ≡ true
 step-met s (Lane m) S g y l = among-more laneNumbers stepNumbers refl (laneNumber s m S) (lane-met s m S g y)
 step-met s (Change w t) S g y l =
@@ -264,15 +257,15 @@ eight-partitions-as S S′ l y = record {
 }
 
 -- the lines that the reader gives
-labelled-by : (line : Line) → ((w : Word) (t : Tuple) → line ≡ Change w t → labelCheck (t .label) ≡ 0) → Labelled line
-labelled-by (Lane m) h = tt
-labelled-by (Change w t) h = h w t refl
-labelled-by Malformed h = tt
+bounded-by : (line : Line) → ((w : Word) (t : Tuple) → line ≡ Change w t → ChangeBounds t) → Bounded line
+bounded-by (Lane m) h = tt
+bounded-by (Change w t) h = h w t refl
+bounded-by Malformed h = tt
 
-pub labelled : (bs : List ℕ) → Labelled (lineOf bs)
-labelled bs = labelled-by (lineOf bs) (λ w t e. line-change-bounds bs w t e .label)
+pub bounded : (bs : List ℕ) → Bounded (lineOf bs)
+bounded bs = bounded-by (lineOf bs) (line-change-bounds bs)
 
 pub numbers-met : {S₀ : Stores} {s : Session} {S : Stores} → EightPartitions S₀ → Reached S₀ s S → (bs : List ℕ)
     → among stepNumbers (stepNumber s (lineOf bs) S) ≡ true
 numbers-met {S₀ = S₀} {s = s} {S = S} y x bs =
-    step-met s (lineOf bs) S (reached-good x) (eight-partitions-as S₀ S (reached-long x) y) (labelled bs)
+    step-met s (lineOf bs) S (reached-good x) (eight-partitions-as S₀ S (reached-long x) y) (bounded bs)

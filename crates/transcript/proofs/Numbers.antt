@@ -1,16 +1,13 @@
 -- The numbers that lines get: neither 5 nor 12, since the wall of a complete plan holds what the machine holds, and a
 -- change on it gets the number that the machine gives.
 -- Assumes nothing.
-use mathlib.Core.Bool.{true, _||_}
+use mathlib.Core.Bool.{true}
 use mathlib.Core.List.{List}
 use mathlib.Core.Path.{_≡_, refl, ap, _∙_}
 use Prim.Native.Nat.{ℕ}
-use lib.Dec.{ltb}
 use Rattle.lists.specs.Members.{all}
 use Rattle.lists.proofs.Choice.{and-both}
-use Rattle.label.specs.Label.{labelCheck}
-use Rattle.interval.specs.Time.{calendarEnd}
-use Rattle.interval.specs.Tuple.{itemEnd, itemCheck, validCheck, tupleNumber}
+use Rattle.interval.specs.Tuple.{tupleNumber}
 use Rattle.interval.specs.declared.tuple.Tuple.{Tuple}
 use Rattle.plan.specs.declared.Partitioning.{Partitioning}
 use Rattle.rows.specs.declared.Side.{Side}
@@ -25,6 +22,7 @@ use Rattle.lines.specs.declared.Word.{Word}
 use Rattle.lines.specs.declared.Word.the-variants.{DrawIn, DrawOut, SpotIn, SpotOut}
 use Rattle.lines.specs.declared.Line.{Line}
 use Rattle.lines.specs.declared.Line.the-variants.{Lane, Change, Malformed}
+use Rattle.lines.proofs.Printed.{ChangeBounds}
 use Rattle.session_plan.specs.Lanes.{planOf}
 use Rattle.session_plan.specs.declared.Session.{Session}
 use Rattle.session_plan.proofs.Plans.{Good}
@@ -32,25 +30,18 @@ use Rattle.session.specs.Session.{EightPartitions, wallOf, laneNumber, callNumb
 use Rattle.session.proofs.Reached.{reached-good}
 use Rattle.session.proofs.Lengths.{reached-long}
 use Rattle.session.proofs.Numbers.{eight-partitions-as, first-met, refuse-ok, guarded-ok, among-more}
-use Rattle.session.proofs.Numbers.{laneNumbers, lane-met, Labelled, labelled}
+use Rattle.session.proofs.Numbers.{laneNumbers, lane-met, tuple-met, Bounded, bounded}
 use Rattle.transcript.specs.Transcript.{Transcript, begun, then}
 use Rattle.transcript.specs.SessionKept.{numbersMet, isMet}
 use Rattle.transcript.proofs.Holding.{Holding, reached, holding}
 
 -- ---- a change: it gets the number that the machine gives, which is none of 1 to 5 and not 12
 
--- checks 6 to 8, of a legal label
-tuple-is : (t : Tuple) → labelCheck (t .label) ≡ 0 → isMet (tupleNumber t) ≡ true
-unfolding tupleNumber itemCheck validCheck
-tuple-is t l =
-    let v = t .valid in
-    first-met isMet _ refl
-    (and-both _ _ (ap isMet l)
-    (and-both _ _ (refuse-ok isMet (ltb itemEnd (t .item)) 7 refl refl)
-    (and-both _ _
-    (refuse-ok isMet (ltb (v .last .0) (v .first .0) || ltb calendarEnd (v .last .0)) 8 refl refl) refl)))
+-- its own checks
+tuple-is : (t : Tuple) → ChangeBounds t → isMet (tupleNumber t) ≡ true
+tuple-is = tuple-met isMet refl refl refl
 
-module _ (m : Machine) (t : Tuple) (l : labelCheck (t .label) ≡ 0) where
+module _ (m : Machine) (t : Tuple) (l : ChangeBounds t) where
   insert-is : (side : Side) → isMet (insertAnswer m side t) ≡ true
   unfolding insertAnswer
   insert-is side =
@@ -71,7 +62,7 @@ module _ (m : Machine) (t : Tuple) (l : labelCheck (t .label) ≡ 0) where
   call-is SpotIn p S k = rw (insert-answered m p S k Inner t) (insert-is Inner)
   call-is SpotOut p S k = rw (delete-answered m p S k Inner t) (delete-is Inner)
 
-change-is : (s : Session) (w : Word) (t : Tuple) (S : Stores) (ts : List Told) → labelCheck (t .label) ≡ 0
+change-is : (s : Session) (w : Word) (t : Tuple) (S : Stores) (ts : List Told) → ChangeBounds t
     → Holding ts s S → isMet (changeLineNumber s w t S) ≡ true
 unfolding changeLineNumber
 change-is s w t S ts l h =
@@ -80,7 +71,7 @@ change-is s w t S ts l h =
 
 -- ---- a line, and every line
 
-line-is : (s : Session) (line : Line) (S : Stores) (ts : List Told) → Good s → EightPartitions S → Labelled line
+line-is : (s : Session) (line : Line) (S : Stores) (ts : List Told) → Good s → EightPartitions S → Bounded line
     → Holding ts s S → isMet (stepNumber s line S) ≡ true
 line-is s (Lane m) S ts g y l h = among-more laneNumbers numbersMet refl (laneNumber s m S) (lane-met s m S g y)
 line-is s (Change w t) S ts g y l h = change-is s w t S ts l h
@@ -93,5 +84,5 @@ all-met {S₀ = S₀} y (then {ns = ns} {ts = ts} {s = s} {S = S} {r = r} bytes 
     and-both (isMet (r .number)) (all isMet ns)
     (ap isMet (b .number)
     ∙ line-is s (lineOf bytes) S ts (reached-good (reached x)) (eight-partitions-as S₀ S (reached-long (reached x)) y)
-    (labelled bytes) (holding x))
+    (bounded bytes) (holding x))
     (all-met y x)
