@@ -90,7 +90,7 @@ extern "C" {
 #define RUTHGARWY_INNER 2
 
 /*
- * The refusal numbers. A call makes its checks in the order 1 to 9, 11 to 14, 10, and the first that applies
+ * The refusal numbers. A call makes its checks in the order 1 to 8, 17, 9, 11 to 14, 10, and the first that applies
  * answers.
  */
 enum ruthgarwy_number {
@@ -104,7 +104,7 @@ enum ruthgarwy_number {
     RUTHGARWY_UNSOUND = 5,        /* stores, not in open: a store is not sound */
     RUTHGARWY_LABEL = 6,          /* tuple: the label number is out of range (1 to 217,180,147,158) */
     RUTHGARWY_ITEM = 7,           /* tuple: the item number is above 999,999 */
-    RUTHGARWY_SPAN = 8,           /* tuple: first after last, or last above 99,999,999 */
+    RUTHGARWY_REVERSED = 8,       /* tuple: first after last, whether or not the last is above 99,999,999 */
     RUTHGARWY_LANE_FULL = 9,      /* insert: the tuple's own lane is at capacity */
     RUTHGARWY_ROWS_FULL = 10,     /* insert, sweep: a rows lane would pass its capacity */
     RUTHGARWY_ABSENT = 11,        /* withdraw: no equal tuple is stored */
@@ -112,7 +112,8 @@ enum ruthgarwy_number {
     RUTHGARWY_NOT_EMPTY = 13,     /* recut: some count word is not 0 */
     RUTHGARWY_CACHE_SHORT = 14,   /* sweep: a cache has fewer words than 4 times its side's need */
     RUTHGARWY_LINE_FORM = 15,     /* line: not of the form that is read; of the program `wall`, and no call's answer */
-    RUTHGARWY_LINE_PLACE = 16     /* line: a change before the plan is complete, or a lane line after; the same */
+    RUTHGARWY_LINE_PLACE = 16,    /* line: a change before the plan is complete, or a lane line after; the same */
+    RUTHGARWY_LATE = 17           /* tuple: last above 99,999,999, with first not after last; straight after 8 */
 };
 
 /*
@@ -126,8 +127,8 @@ uint64_t ruthgarwy_open(const uint64_t *plan, size_t plan_words,
 
 /*
  * Insert: appends the tuple to its lane on that side, and adds the rows it makes with the other side. Can be
- * refused with 1 to 10. Counts: rows added; tuples looked at, which is the number stored in the other side's lanes
- * from the one that contains the new tuple's first minute to the last lane.
+ * refused with 1 to 10 and 17. Counts: rows added; tuples looked at, which is the number stored in the other side's
+ * lanes from the one that contains the new tuple's first minute to the last lane.
  */
 uint64_t ruthgarwy_insert(const uint64_t *plan, size_t plan_words,
                           uint64_t side, uint64_t label, uint64_t item, uint64_t first, uint64_t last,
@@ -139,7 +140,7 @@ uint64_t ruthgarwy_insert(const uint64_t *plan, size_t plan_words,
 /*
  * Withdraw: takes out one tuple of that side that is equal in all four words, and its rows, each with its
  * multiplicity. The lane's last record goes over the first equal one, and its own words become 0. Can be refused
- * with 1 to 8, 11 and 12. Counts: rows removed; tuples looked at, as for insert.
+ * with 1 to 8, 17, 11 and 12. Counts: rows removed; tuples looked at, as for insert.
  */
 uint64_t ruthgarwy_delete(const uint64_t *plan, size_t plan_words,
                           uint64_t side, uint64_t label, uint64_t item, uint64_t first, uint64_t last,

@@ -1,6 +1,6 @@
 #!/bin/bash
-# The C host of examples/host, built with the static library, hangs document 01's example as document 01 lists it, and
-# says before a sweep of it what that will take.
+# The C host of examples/host, built with the static library, hangs document 01's example as document 01 lists it, tells
+# spans entered backward from those that run past the calendar, and says before a sweep what that will take.
 # Works from any folder. Needs rt and a C compiler.
 set -eu
 
@@ -17,6 +17,16 @@ awk '/^  lane/ { print; seen = 1; next } seen { exit }' <<<"$said" |
 3,AL,11,2,41,48
 ROWS
     )
+
+# Spans that are refused, by document 02, (c): minutes 50 to 49, 50 to 100,000,000 and 100,000,001 to 100,000,000 are
+# inserted, 32 to 100,000,000 is withdrawn. The calendar's last minute is 99,999,999; both errors together count as the
+# first.
+diff <(grep 'the span' <<<"$said") - <<'SPANS'
+insert spot: number 8, counts 0 0, the span was entered backward
+insert spot: number 17, counts 0 0, the span runs past the calendar
+insert spot: number 8, counts 0 0, the span was entered backward
+withdraw drawing: number 17, counts 0 0, the span runs past the calendar
+SPANS
 
 # What a sweep of it takes, by hand. Rows: of these five, two are listed for lane 1, two for lane 2, one for lane 3.
 # Drawings to carry: above lane 1 stand 33 to 40 and 41 to 48, of which the first begins by 34; above lane 2 stands 41
@@ -36,4 +46,4 @@ requirements: number 0, drawings to carry 1, spots to carry 1, pairs 5
   rows of lane 3: 1, they fit
 sweep, caches of 4 and 4 words: number 10, counts 0 0
 REQUIREMENTS
-echo "host: document 01's example hangs as listed, and takes what was said"
+echo "host: document 01's example hangs as listed, faulty spans are told apart, and a sweep takes what was said"

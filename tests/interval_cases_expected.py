@@ -42,9 +42,9 @@ big = 2 ** 64 - 1
 labels = [0, 1, upto[8], upto[8] + 1, big]
 items = [0, 999999, 1000000, big]
 minutes = [0, 1, 99999998, 99999999, 100000000, big]
-answers = {0: 0, 6: 0, 7: 0, 8: 0}
+answers = {0: 0, 6: 0, 7: 0, 8: 0, 17: 0}
 for l, i, f, t in product(labels, items, minutes, minutes):
     hits = [n for n, legal in ((6, l in range(1, upto[8] + 1)), (7, i in range(0, 10 ** 6)),
-                               (8, f <= t and t in range(0, 10 ** 8))) if not legal]
+                               (8, f <= t), (17, t in range(0, 10 ** 8))) if not legal]
     answers[min(hits, default=0)] += 1
-print('tuples,%d,0,%d,%d,%d,%d' % (sum(answers.values()), answers[0], answers[6], answers[7], answers[8]))
+print(','.join(map(str, ['tuples', sum(answers.values()), 0, *answers.values()])))

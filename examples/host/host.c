@@ -27,10 +27,23 @@ static uint64_t small_rows[RUTHGARWY_ROW_STORE_WORDS(LANES, 1)];
 // an array as a slice: its address and its length in words
 #define SLICE(words) (words), sizeof(words) / sizeof((words)[0])
 
+// what a loader says of a span that is refused
+static const char *span_fault(uint64_t number)
+{
+    switch (number) {
+    case RUTHGARWY_REVERSED:
+        return ", the span was entered backward";
+    case RUTHGARWY_LATE:
+        return ", the span runs past the calendar";
+    default:
+        return "";
+    }
+}
+
 static void told(const char *call, uint64_t number)
 {
-    printf("%s: number %" PRIu64 ", counts %" PRIu64 " %" PRIu64 "\n", call, number,
-           answer[RUTHGARWY_ANSWER_CHANGED], answer[RUTHGARWY_ANSWER_EXAMINED]);
+    printf("%s: number %" PRIu64 ", counts %" PRIu64 " %" PRIu64 "%s\n", call, number,
+           answer[RUTHGARWY_ANSWER_CHANGED], answer[RUTHGARWY_ANSWER_EXAMINED], span_fault(number));
 }
 
 static void insert(uint64_t side, uint64_t item, uint64_t first, uint64_t last)
@@ -109,7 +122,9 @@ int main(void)
     insert(RUTHGARWY_OUTER, 11, 41, 48);
     insert(RUTHGARWY_INNER, 1, 30, 35);
     insert(RUTHGARWY_INNER, 2, 36, 48);
-    insert(RUTHGARWY_INNER, 3, 50, 49); // refused: first after last
+    insert(RUTHGARWY_INNER, 3, 50, 49);                        // refused: entered backward
+    insert(RUTHGARWY_INNER, 3, 50, RUTHGARWY_LAST_MINUTE + 1); // refused: past the calendar
+    insert(RUTHGARWY_INNER, 3, RUTHGARWY_LAST_MINUTE + 2, RUTHGARWY_LAST_MINUTE + 1); // refused: both, told as backward
     print_rows();
 
     ask(plan);
@@ -122,6 +137,7 @@ int main(void)
 
     withdraw(RUTHGARWY_OUTER, 11, 32, 32);
     withdraw(RUTHGARWY_OUTER, 11, 32, 32); // refused: it is gone
+    withdraw(RUTHGARWY_OUTER, 11, 32, RUTHGARWY_LAST_MINUTE + 1); // refused: past the calendar, so never there
     print_rows();
 
     sweep(plan, SLICE(rows), RUTHGARWY_CACHE_WORDS(LANES, TUPLES), RUTHGARWY_CACHE_WORDS(LANES, TUPLES));

@@ -1,4 +1,4 @@
-// Tuple checks 6 to 8: words at the ends of each range, in all combinations, against a rule written for the test.
+// Tuple checks 6, 7, 8 and 17: words at the ends of each range, in all combinations, against a rule written for the test.
 use crate::report;
 use interval::time::Chronon;
 use interval::time::Interval;
@@ -11,6 +11,7 @@ struct Counts {
     sixes: u64,
     sevens: u64,
     eights: u64,
+    seventeens: u64,
 }
 
 fn label(k: u64) -> u64 {
@@ -47,8 +48,9 @@ fn minute(k: u64) -> u64 {
 fn rule(t: Tuple) -> u64 {
     let no_label = (t.label == 0) | (t.label >= 217_180_147_159);
     let no_item = t.item >= 1_000_000;
-    let no_span = (t.valid.first.0 > t.valid.last.0) | (t.valid.last.0 >= 100_000_000);
-    let span = report::either(no_span, 8, 0);
+    let backward = t.valid.first.0 > t.valid.last.0;
+    let late = t.valid.last.0 >= 100_000_000;
+    let span = report::either(backward, 8, report::either(late, 17, 0));
     report::either(no_label, 6, report::either(no_item, 7, span))
 }
 
@@ -70,6 +72,7 @@ fn one_tuple(n: Counts, k: u64) -> Counts {
         sixes: report::more_unless(answer != 6, n.sixes),
         sevens: report::more_unless(answer != 7, n.sevens),
         eights: report::more_unless(answer != 8, n.eights),
+        seventeens: report::more_unless(answer != 17, n.seventeens),
     }
 }
 
@@ -81,6 +84,7 @@ fn all_tuples() -> Counts {
         sixes: 0,
         sevens: 0,
         eights: 0,
+        seventeens: 0,
     };
     let mut k: u64 = 0;
     while k < 720 {
@@ -90,7 +94,7 @@ fn all_tuples() -> Counts {
     n
 }
 
-// The line tuples: tuples, tuples that differ, and how many the crate answers with 0, 6, 7 and 8.
+// The line tuples: tuples, tuples that differ, and how many the crate answers with 0, 6, 7, 8 and 17.
 pub(crate) fn run() {
     let n = all_tuples();
     report::name(b"tuples");
@@ -100,5 +104,6 @@ pub(crate) fn run() {
     report::number(n.sixes);
     report::number(n.sevens);
     report::number(n.eights);
+    report::number(n.seventeens);
     report::end();
 }

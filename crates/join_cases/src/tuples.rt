@@ -130,9 +130,17 @@ fn bad_item(item: u64, k: u64) -> u64 {
     total::either(k == 0, 1_000_000, huge)
 }
 
+// A span entered backward, or one past the calendar that is backward (3) or not (4).
+fn bad_first(first: u64, last: u64, k: u64) -> u64 {
+    let past = total::either(k == 4, 100_000_000, first);
+    let both = total::either(k == 3, 100_000_001, past);
+    total::either(k == 0, total::plus(last, 1), both)
+}
+
+// A span past the calendar.
 fn bad_last(last: u64, k: u64) -> u64 {
-    let huge = total::either(k == 2, 18_446_744_073_709_551_615, last);
-    total::either(k == 1, 100_000_000, huge)
+    let past = total::either((k == 1) | (k == 3) | (k == 4), 100_000_000, last);
+    total::either(k == 2, 18_446_744_073_709_551_615, past)
 }
 
 // The tuple of a step, now and then with a word or several out of their range.
@@ -145,7 +153,7 @@ pub(crate) fn of_step(p: Partitioning, kind: u64, d: &[u64], pool: Pool, own: &[
     tuple(
         bad_label(t.label, draws::pick(d, 11, 100)),
         bad_item(t.item, draws::pick(d, 12, 80)),
-        total::either(k == 0, total::plus(last.0, 1), first.0),
+        bad_first(first.0, last.0, k),
         bad_last(last.0, k),
     )
 }

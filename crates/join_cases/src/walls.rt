@@ -17,13 +17,13 @@ use crate::tuples::Pool;
 use interval::tuple::Tuple;
 use plan::Partitioning;
 
-// How often each number from 0 to 14 was answered.
+// How often each number from 0 to 17 was answered.
 pub(crate) struct Tally {
-    pub(crate) times: [u64; 15],
+    pub(crate) times: [u64; 18],
 }
 
 pub(crate) fn none() -> Tally {
-    let times = [0u64; 15];
+    let times = [0u64; 18];
     Tally { times }
 }
 
