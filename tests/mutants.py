@@ -105,6 +105,26 @@ CALLS = [
     ('interval/tuple.rt', 'if CALENDAR_END < valid.last.0 {', 'if CALENDAR_END < valid.first.0 {'),
     ('interval/tuple.rt', 'if r.inner != s.inner {', 'if false {'),
     ('interval/tuple.rt', 'if a.item != b.item {', 'if false {'),
+    # a span entered backward, one that runs past the calendar, one that does both; a stored one
+    ('interval/tuple.rt', '        return 17;', '        return 8;'),
+    ('interval/tuple.rt', '        return 8;', '        return 17;'),
+    ('interval/tuple.rt', 'if CALENDAR_END < valid.last.0 {', 'if CALENDAR_END <= valid.last.0 {'),
+    ('interval/tuple.rt', 'if valid.last.0 < valid.first.0 {', 'if valid.last.0 <= valid.first.0 {'),
+    (
+        'interval/tuple.rt',
+        'if valid.last.0 < valid.first.0 {',
+        'if CALENDAR_END < valid.last.0 {\n        return 17;\n    }\n    if valid.last.0 < valid.first.0 {',
+    ),
+    (
+        'interval/tuple.rt',
+        'let item = item_check(t.item);',
+        'if valid_check(t.valid) == 17 {\n        return 17;\n    }\n    let item = item_check(t.item);',
+    ),
+    (
+        'soundness/lib.rt',
+        'if number != 0 {',
+        'if number == 17 {\n        return true;\n    }\n    if number != 0 {',
+    ),
     # the calls: what they do
     (
         'insertion/lib.rt',

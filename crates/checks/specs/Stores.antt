@@ -47,8 +47,8 @@ tuplesUnsound p ws = refuseIf (not (soundTuples p ws)) 5
 unfoldable pub rowsUnsound : Partitioning → List ℕ → ℕ
 rowsUnsound p ws = refuseIf (not (soundRows p ws)) 5
 
--- checks 1 to 4, 1 to 5, and 1 to 8 of a change, in the table's order (what they say of fitsAll and of sound: proved in
--- proofs/Checks.antt: lengths-are, stores-are)
+-- checks 1 to 4, 1 to 5, and those of a change's plan, stores and tuple, in the table's order (what they say of fitsAll
+-- and of sound: proved in proofs/Checks.antt: lengths-are, stores-are)
 unfoldable pub lengthsNumber : Partitioning → ℕ → ℕ → ℕ → ℕ
 lengthsNumber p outer inner rows =
     firstOf (planNumber p ∷ (tuplesLength p outer ∷ (tuplesLength p inner ∷ (rowsLength p rows ∷ []))))

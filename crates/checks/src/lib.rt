@@ -1,5 +1,6 @@
-// The checks of plan, stores and tuple, 1 to 8: those of one store by themselves, and all in the table's order over the
-// three stores; the test of check 13; and what a call answers. The definitions are in specs/Stores and specs/Empty.
+// The checks of plan, stores and tuple, 1 to 8 and 17: those of one store by themselves, and all in the table's order
+// over the three stores; the test of check 13; and what a call answers. The definitions are in specs/Stores and
+// specs/Empty.
 ghost use mathlib.Core.Bool.{true};
 ghost use mathlib.Core.Path.{_≡_};
 ghost use Prim.Native.Nat.{_*_, _≤_};
@@ -112,7 +113,7 @@ pub fn store_number(p: Partitioning, outer: &[u64], inner: &[u64], rows: &[u64])
     rows_unsound(p, rows)
 }
 
-// Checks 1 to 8 of a change: those of plan and stores, then those of its tuple.
+// The checks of a change that do not go by its kind: those of plan and stores, then those of its tuple.
 pub fn given_number(p: Partitioning, t: Tuple, outer: &[u64], inner: &[u64], rows: &[u64]) -> u64
     ensures { λ r. ⌜ r ≡ givenNumber p t (stores (now (outer .entry)) (now (inner .entry)) (now (rows .entry))) ⌝ }
 {

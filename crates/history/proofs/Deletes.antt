@@ -157,7 +157,7 @@ shrunk-held p ws ws′ rs gone h g s = record {
 
 -- ---- the call
 
--- what checks 1 to 8 and 11 say where the call is accepted
+-- what the tuple's checks and 11 say where the call is accepted
 passed : (p : Partitioning) (side : Side) (t : Tuple) (s : Stores) → deleteNumber p side t s ≡ 0
     → (tupleNumber t ≡ 0) × (any (sameTuple t) (storedTuples p (ownStore side s)) ≡ true)
 unfolding deleteNumber

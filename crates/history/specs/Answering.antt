@@ -43,8 +43,8 @@ rowsPass m side t = any (λ i. ltb (m .plan .rows) (rowsHeldAt (put side t m) i)
 abbrev pub noneEqual : Machine → Side → Tuple → Bool
 noneEqual m side t = not (any (sameTuple t) (ownTuples side m))
 
--- "Checks go down this table; the first that applies answers.": 6 to 8, 9, 10 of an insert; 6 to 8, 11 of a withdrawal.
--- A wall that holds what the machine holds meets neither 1 to 5 nor 12
+-- "Checks go down this table; the first that applies answers.": the tuple's own (6, 7, 8 and 17), then 9 and 10 of an
+-- insert, 11 of a withdrawal. A wall that holds what the machine holds meets neither 1 to 5 nor 12
 unfoldable pub insertAnswer : Machine → Side → Tuple → ℕ
 insertAnswer m side t =
     firstOf (tupleNumber t ∷ refuseIf (partitionFull m side t) 9 ∷ refuseIf (rowsPass m side t) 10 ∷ [])

@@ -1,5 +1,6 @@
 -- Laws of tuples and rows: their words there and back, and read one by one; equality in all words is equality; the
--- number of a reversed span and of a late one; what a legal tuple, a legal row is, and that such a one passes each check.
+-- number of a span entered backward and of a late one; what a legal tuple, a legal row is, and that such a one passes
+-- each check.
 -- Assumes nothing.
 use mathlib.Core.Bool.{Bool, true, false, _&&_}
 use mathlib.Core.List.{List, [], _∷_}

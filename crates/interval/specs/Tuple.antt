@@ -56,8 +56,8 @@ rowOf ws = row (getD ws 0 0) (getD ws 1 0) (getD ws 2 0) (getD ws 3 0) (getD ws 
 unfoldable pub itemCheck : ℕ → ℕ
 itemCheck n = refuseIf (ltb itemEnd n) 7
 
--- checks 8 and 17 (document 02, (c)): "a span entered backward" "keeps 8, also where both errors are present"; one "that
--- runs past the calendar", "with first not after last and last above 99,999,999, gets 17, checked straight after 8"
+-- checks 8 and 17 (document 02, (c)): "a span entered backward" "keeps 8, also where both errors are present"; one
+-- "that runs past the calendar", "with first not after last and last above 99,999,999, gets 17, checked straight after 8"
 unfoldable pub validCheck : Interval → ℕ
 validCheck v =
     firstOf (refuseIf (ltb (v .last .0) (v .first .0)) 8 ∷ (refuseIf (ltb calendarEnd (v .last .0)) 17 ∷ []))

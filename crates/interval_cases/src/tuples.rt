@@ -1,4 +1,5 @@
-// Tuple checks 6, 7, 8 and 17: words at the ends of each range, in all combinations, against a rule written for the test.
+// Tuple checks 6, 7, 8 and 17: words at the ends of each range, in all combinations, against a rule written for the
+// test.
 use crate::report;
 use interval::time::Chronon;
 use interval::time::Interval;

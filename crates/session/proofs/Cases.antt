@@ -83,12 +83,15 @@ unfolding lanes Cases numbersOf badLane laneCheck
     legalPlan fitsTuples fitsRows tuplesLength rowsLength lengthsNumber
 lanes-hold = (refl, (refl, (refl, tt)))
 
--- changes on an empty wall: an insert, a delete, an item number above 999,999, a span that ends before it starts
+-- changes on an empty wall: an insert, a delete, an item number above 999,999, a span that ends before it starts; and
+-- one past the calendar, which no line has (`numbers-met`) but a direct caller may hand over
 abbrev some : List Line
-some = lane 99999999 ∷ (draw ∷ (unspot ∷ (drawn 1000000 30 31 ∷ (drawn 10 31 30 ∷ []))))
+some =
+    lane 99999999
+    ∷ (draw ∷ (unspot ∷ (drawn 1000000 30 31 ∷ (drawn 10 31 30 ∷ (drawn 10 30 100000000 ∷ [])))))
 
 changes : List (Stores × List Line × List ℕ)
-changes = (blankOf 1, some, 0 ∷ (0 ∷ (11 ∷ (7 ∷ (8 ∷ []))))) ∷ []
+changes = (blankOf 1, some, 0 ∷ (0 ∷ (11 ∷ (7 ∷ (8 ∷ (17 ∷ [])))))) ∷ []
 
 changes-hold : Cases changes
 unfolding changes Cases numbersOf badLane laneCheck laneNumber changeLineNumber sessionAfter firstOf cutsOf cover

@@ -24,7 +24,8 @@ use Rattle.session.specs.Session.{EightPartitions, wallOf}
 use Rattle.transcript.specs.Transcript.{Transcript, begun, then}
 use Rattle.transcript.specs.Rows.{printedRows}
 
--- "The program can meet 2, 7 to 11, 15 and 16; the rest only a direct caller can." So it meets neither 5 nor 12
+-- "The program can meet 2, 7 to 11, 15 and 16; the rest only a direct caller can." So it meets neither 5 nor 12, nor
+-- document 02's 17: a line's LAST has at most eight digits
 abbrev pub numbersMet : List ℕ
 numbersMet = 0 ∷ 2 ∷ 7 ∷ 8 ∷ 9 ∷ 10 ∷ 11 ∷ 15 ∷ 16 ∷ []
 
