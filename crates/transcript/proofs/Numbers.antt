@@ -1,12 +1,14 @@
 -- The numbers that lines get: neither 5 nor 12, since the wall of a complete plan holds what the machine holds, and a
--- change on it gets the number that the machine gives.
+-- change on it gets the number that the machine gives; and not 17, since a line's LAST has at most eight digits.
 -- Assumes nothing.
-use mathlib.Core.Bool.{true}
-use mathlib.Core.List.{List}
-use mathlib.Core.Path.{_≡_, refl, ap, _∙_}
+use mathlib.Core.Bool.{true, false, false≢true}
+use mathlib.Core.List.{List, [], _∷_}
+use mathlib.Core.Path.{_≡_, refl, sym, ap, _∙_}
 use Prim.Native.Nat.{ℕ}
-use Rattle.lists.specs.Members.{all}
-use Rattle.lists.proofs.Choice.{and-both}
+use lib.Dec.{eqb}
+use borrow.Author.Tests.{ne-eqb}
+use Rattle.lists.specs.Members.{all, any}
+use Rattle.lists.proofs.Choice.{and-left, and-right, and-both, or-none}
 use Rattle.interval.specs.Tuple.{tupleNumber}
 use Rattle.interval.specs.declared.tuple.Tuple.{Tuple}
 use Rattle.plan.specs.declared.Partitioning.{Partitioning}
@@ -32,7 +34,7 @@ use Rattle.session.proofs.Lengths.{reached-long}
 use Rattle.session.proofs.Numbers.{eight-partitions-as, first-met, refuse-ok, guarded-ok, among-more}
 use Rattle.session.proofs.Numbers.{laneNumbers, lane-met, tuple-met, Bounded, bounded}
 use Rattle.transcript.specs.Transcript.{Transcript, begun, then}
-use Rattle.transcript.specs.SessionKept.{numbersMet, isMet}
+use Rattle.transcript.specs.SessionKept.{numbersMet, isMet, NeverLate}
 use Rattle.transcript.proofs.Holding.{Holding, reached, holding}
 
 -- ---- a change: it gets the number that the machine gives, which is none of 1 to 5 and not 12
@@ -86,3 +88,15 @@ all-met {S₀ = S₀} y (then {ns = ns} {ts = ts} {s = s} {S = S} {r = r} bytes 
     ∙ line-is s (lineOf bytes) S ts (reached-good (reached x)) (eight-partitions-as S₀ S (reached-long (reached x)) y)
     (bounded bytes) (holding x))
     (all-met y x)
+
+-- ---- a number that is none of these no line gets; so none gets 17
+
+unmet : (n : ℕ) (ns : List ℕ) → isMet n ≡ false → all isMet ns ≡ true → any (eqb n) ns ≡ false
+unmet n [] u h = refl
+unmet n (m ∷ ns) u h =
+    or-none (eqb n m) (any (eqb n) ns)
+    (ne-eqb n m (λ e. false≢true (sym u ∙ (ap isMet e ∙ and-left (isMet m) (all isMet ns) h))))
+    (unmet n ns u (and-right (isMet m) (all isMet ns) h))
+
+pub never-late : NeverLate
+never-late S₀ y ns ts s S x = unmet _ ns refl (all-met y x)

@@ -1,5 +1,5 @@
 -- Demand 3 of sessions of lines, stated. It is proved in proofs/Sessions.antt (`session-kept`).
-use mathlib.Core.Bool.{Bool, true}
+use mathlib.Core.Bool.{Bool, true, false}
 use mathlib.Core.List.{List, [], _∷_, _++_}
 use mathlib.Core.Option.{some}
 use mathlib.Core.Path.{_≡_}
@@ -24,8 +24,8 @@ use Rattle.session.specs.Session.{EightPartitions, wallOf}
 use Rattle.transcript.specs.Transcript.{Transcript, begun, then}
 use Rattle.transcript.specs.Rows.{printedRows}
 
--- "The program can meet 2, 7 to 11, 15 and 16; the rest only a direct caller can." So it meets neither 5 nor 12, nor
--- document 02's 17: a line's LAST has at most eight digits
+-- "The program can meet 2, 7 to 11, 15 and 16; the rest only a direct caller can." So it meets neither 5 nor 12, nor 17
+-- (see NeverLate below)
 abbrev pub numbersMet : List ℕ
 numbersMet = 0 ∷ 2 ∷ 7 ∷ 8 ∷ 9 ∷ 10 ∷ 11 ∷ 15 ∷ 16 ∷ []
 
@@ -76,3 +76,9 @@ abbrev pub SessionKept : Type 0
 SessionKept =
     (S₀ : Stores) → EightPartitions S₀
     → (ns : List ℕ) (ts : List Told) (s : Session) (S : Stores) (x : Transcript S₀ ns ts s S) → LinesKept x
+
+-- Document 02, (c), in the program: a line's LAST has at most eight digits, so no line of any such list gets 17.
+abbrev pub NeverLate : Type 0
+NeverLate =
+    (S₀ : Stores) → EightPartitions S₀
+    → (ns : List ℕ) (ts : List Told) (s : Session) (S : Stores) → Transcript S₀ ns ts s S → any (eqb 17) ns ≡ false
