@@ -57,7 +57,8 @@ unfoldable pub itemCheck : ℕ → ℕ
 itemCheck n = refuseIf (ltb itemEnd n) 7
 
 -- checks 8 and 17 (document 02, (c)): "a span entered backward" "keeps 8, also where both errors are present"; one
--- "that runs past the calendar", "with first not after last and last above 99,999,999, gets 17, checked straight after 8"
+-- "that runs past the calendar", "with first not after last and last above 99,999,999, gets 17, checked straight after
+-- 8"
 unfoldable pub validCheck : Interval → ℕ
 validCheck v =
     firstOf (refuseIf (ltb (v .last .0) (v .first .0)) 8 ∷ (refuseIf (ltb calendarEnd (v .last .0)) 17 ∷ []))

@@ -20,8 +20,8 @@ returns-3 : tie.Need-returns-3
 unfolding legalBetween
 returns-3 c =
     let before = c .before .before .before .before .before in
-    simp
-    (eq-eqb (before .before .args .number) 0 (omega (arith, before .if1 .left)), le-leb _ _ (c .before .before .if2 .left))
+    let ok = eq-eqb (before .before .args .number) 0 (omega (arith, before .if1 .left)) in
+    simp (ok, le-leb _ _ (c .before .before .if2 .left))
 
 pub legal-between-spec : {M : Type 1} → statement M
 legal-between-spec = tie.close (tie.spec returns returns-2 returns-3)
