@@ -1,4 +1,5 @@
--- Demand 3 of sessions of lines, stated. It is proved in proofs/Sessions.antt (`session-kept`).
+-- Demand 3 of sessions of lines, stated, and that no line gets 17. They are proved in proofs/Sessions.antt
+-- (`session-kept`) and proofs/Numbers.antt (`never-late`).
 use mathlib.Core.Bool.{Bool, true, false}
 use mathlib.Core.List.{List, [], _∷_, _++_}
 use mathlib.Core.Option.{some}
