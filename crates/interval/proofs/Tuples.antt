@@ -4,18 +4,19 @@
 -- Assumes nothing.
 use mathlib.Core.Bool.{Bool, true, false, _&&_}
 use mathlib.Core.List.{List, [], _∷_}
-use mathlib.Core.Path.{_≡_, refl, sym}
+use mathlib.Core.Logic.{⊎-elim}
+use mathlib.Core.Path.{_≡_, refl, sym, _∙_}
 use Prim.Native.Nat.{ℕ, zero, suc, _+_, _≤_, _<_}
 use native.Mathlib.Nat.{add-zero}
 use native.Mathlib.Omega.{arith}
 use lib.ListN.{length, getD}
 use lib.Seq.{ext-getD}
 use lib.Dec.{ltb, eqb}
-use borrow.Author.Tests.{eqb-true, eq-eqb, lt-ltb, le-ltb, ltb-false}
+use borrow.Author.Tests.{eqb-true, eq-eqb, lt-ltb, le-ltb, ltb-true, ltb-false}
 use Rattle.lists.specs.Choice.{refuseIf, firstOf}
 use Rattle.lists.specs.Same.{IsEquality}
 use Rattle.lists.specs.Words.{partAt}
-use Rattle.lists.proofs.Choice.{and-left, and-right, and-both, refuse-none, first-none}
+use Rattle.lists.proofs.Choice.{bool-cases, and-left, and-right, and-both, refuse-none, first-none}
 use Rattle.lists.proofs.Parts.{reads-part}
 use Rattle.label.specs.Label.{labelCheck}
 use Rattle.interval.specs.Time.{calendarEnd}
@@ -131,6 +132,21 @@ late-is v lo late = rw (le-ltb (v .last .0) (v .first .0) lo, lt-ltb calendarEnd
 pub ok-valid : (v : Interval) → v .first .0 ≤ v .last .0 → v .last .0 ≤ calendarEnd → validCheck v ≡ 0
 unfolding validCheck firstOf
 ok-valid v lo hi = rw (le-ltb (v .last .0) (v .first .0) lo, le-ltb calendarEnd (v .last .0) hi)
+
+-- so a number that is 8 of the first, 17 of the second and 0 of the third is the number of the check
+pub valid-number : (v : Interval) (n : ℕ) → (v .last .0 < v .first .0 → n ≡ 8)
+    → (v .first .0 ≤ v .last .0 → calendarEnd < v .last .0 → n ≡ 17)
+    → (v .first .0 ≤ v .last .0 → v .last .0 ≤ calendarEnd → n ≡ 0) → n ≡ validCheck v
+valid-number v n reversed late ok =
+    ⊎-elim (λ h. let r = ltb-true (v .last .0) (v .first .0) h in reversed r ∙ sym (reversed-is v r))
+    (λ h. forward (ltb-false (v .last .0) (v .first .0) h))
+    (bool-cases (ltb (v .last .0) (v .first .0)))
+  where
+    forward : v .first .0 ≤ v .last .0 → n ≡ validCheck v
+    forward lo =
+        ⊎-elim (λ h. let l = ltb-true calendarEnd (v .last .0) h in late lo l ∙ sym (late-is v lo l))
+        (λ h. let e = ltb-false calendarEnd (v .last .0) h in ok lo e ∙ sym (ok-valid v lo e))
+        (bool-cases (ltb calendarEnd (v .last .0)))
 
 pub valid-ok : (v : Interval) → validCheck v ≡ 0 → (v .first .0 ≤ v .last .0) × (v .last .0 ≤ calendarEnd)
 unfolding validCheck
