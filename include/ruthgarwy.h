@@ -71,7 +71,9 @@ extern "C" {
  * minute, last minute.
  *
  * A label's number starts at 0 and for each of its 1 to 8 letters becomes 26 times itself plus the letter's rank: A
- * and a have 1, Z and z have 26, so AL, Al and al are all 38. The calls take and store the number only.
+ * and a have 1, Z and z have 26, so AL, Al and al are all 38. The same number is the sum of the ranks, each times the
+ * weight of its place: from the last letter on 1, 26, 676, 17,576, 456,976, 11,881,376, 308,915,776, 8,031,810,176.
+ * The calls take and store the number only.
  */
 #define RUTHGARWY_TUPLE_WORDS 4
 #define RUTHGARWY_ROW_WORDS 5

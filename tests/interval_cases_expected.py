@@ -27,6 +27,14 @@ upto = [sum(26 ** i for i in range(1, k + 1)) for k in range(9)]
 assert upto[8] == 217180147158
 print('ends,5,0')
 
+# of labels with one length the number follows the alphabet: their letters are the digits of a number to base 26
+def number(word):
+    return upto[len(word) - 1] + 1 + int(''.join('0123456789abcdefghijklmnop'[A.index(c)] for c in word), 26)
+
+assert all(number(word) == k for k, word in enumerate(words, 1))
+places = ['A' * k + 'B' + 'A' * (7 - k) for k in range(8)] + ['SPACEMUG', 'SPACEMUG'[::-1]]
+print(','.join(map(str, ['places', *map(number, places)])))
+
 good = [b for b in range(256) if bytes([b]).decode('latin-1') in LETTERS]
 print(f'bytes,256,0,{len(good)},{256 - len(good)}')
 

@@ -433,6 +433,15 @@ CALLS = [
 
 # the program wall: what it reads and writes, which no promise can say, and some of what it prints
 WALL = [
+    # the weights of a label's letters
+    ('label/lib.rt', '    1,\n    26,', '    0,\n    26,'),
+    ('label/lib.rt', '    17_576,', '    17_575,'),
+    ('label/lib.rt', '    8_031_810_176,', '    8_031_810_175,'),
+    ('label/lib.rt', '    676,\n    17_576,', '    17_576,\n    676,'),
+    ('label/lib.rt', '    11_881_376,\n    308_915_776,', '    308_915_776,\n    11_881_376,'),
+    ('label/lib.rt', 'weights[after]', 'weights[i]'),
+    ('label/lib.rt', 'weights[after]', 'weights[7 - after]'),
+    ('label/lib.rt', 'letters[i]', 'letters[after]'),
     # small letters in labels, and nowhere else
     ('label/lib.rt', 'rank_of(capital_of(letters[i]))', 'rank_of(letters[i])'),
     ('label/lib.rt', 'b - 32\n', 'b - 33\n'),

@@ -1,4 +1,5 @@
-// Labels: an odometer of letters beside the running numbers 1 to 20,000, and the last labels of all.
+// Labels: an odometer of letters beside the running numbers 1 to 20,000, the last labels of all, and labels in which a
+// letter's place shows.
 use crate::report;
 
 // A mileage counter of letters: the first `count` bytes show A to Z, the others are 0.
@@ -165,5 +166,22 @@ pub(crate) fn run_ends() {
     report::name(b"ends");
     report::number(5);
     report::number(e);
+    report::end();
+}
+
+// The line places: the numbers of labels of eight letters, A but for a B at one place, from the first place to the
+// last, then of eight letters that differ, and of the same from the last to the first.
+pub(crate) fn run_places() {
+    report::name(b"places");
+    report::number(label::label_number(b"BAAAAAAA"));
+    report::number(label::label_number(b"ABAAAAAA"));
+    report::number(label::label_number(b"AABAAAAA"));
+    report::number(label::label_number(b"AAABAAAA"));
+    report::number(label::label_number(b"AAAABAAA"));
+    report::number(label::label_number(b"AAAAABAA"));
+    report::number(label::label_number(b"AAAAAABA"));
+    report::number(label::label_number(b"AAAAAAAB"));
+    report::number(label::label_number(b"SPACEMUG"));
+    report::number(label::label_number(b"GUMECAPS"));
     report::end();
 }

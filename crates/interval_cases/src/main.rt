@@ -10,6 +10,7 @@ fn main() {
     overlaps::run();
     labels::run();
     labels::run_ends();
+    labels::run_places();
     fields::run_bytes();
     fields::run_twos();
     fields::run_lengths();

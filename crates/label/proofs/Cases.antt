@@ -1,13 +1,14 @@
 -- Closed cases that compute, from the definitions that the promises cite: document 01's P5, the largest label and one
--- more, document 02's small letters, what is no label field, and check 6.
+-- more, document 02's small letters, what is no label field, check 6, and document 02's table of weights.
 -- Assumes nothing.
-use mathlib.Core.Bool.{false}
+use mathlib.Core.Bool.{Bool, true, false}
 use mathlib.Core.List.{List, [], _∷_, map}
 use mathlib.Core.Path.{_≡_, refl}
 use Prim.Native.Nat.{ℕ}
 use lib.ListN.{replicate}
 use Rattle.label.specs.Label.{rank, isLetter, isLabel, labelNumber, capital, capitals, isLabelField}
 use Rattle.label.specs.Label.{fieldLabelNumber, numberOrNone, labelCheck, lettersOf}
+use Rattle.label.specs.Weights.{rightWeights, weighted}
 
 -- P5: A = 1, Z = 26, AA = 27, AL = 38, ZZZZZZZZ = 217,180,147,158; and the last with three letters and the first with
 -- four
@@ -88,3 +89,35 @@ past-labels = (refl, refl)
 check-6 : (labelCheck 217180147159 ≡ 6) × (labelCheck 0 ≡ 6) × (labelCheck 1 ≡ 0) × (labelCheck 217180147158 ≡ 0)
 unfolding labelCheck
 check-6 = (refl, refl, refl, refl)
+
+-- document 02, (d): the powers of 26 pass the test of a table. These do not: a weight too few, one too many, one off by
+-- one at the front, within and at the end, two exchanged, the powers from the last, those from the first power on, and
+-- zeros, of which each is 26 times the one before
+powers : List ℕ
+powers = 1 ∷ 26 ∷ 676 ∷ 17576 ∷ 456976 ∷ 11881376 ∷ 308915776 ∷ 8031810176 ∷ []
+
+tables : List (List ℕ × Bool)
+tables =
+    (powers, true)
+    ∷ (1 ∷ 26 ∷ 676 ∷ 17576 ∷ 456976 ∷ 11881376 ∷ 308915776 ∷ [], false)
+    ∷ (1 ∷ 26 ∷ 676 ∷ 17576 ∷ 456976 ∷ 11881376 ∷ 308915776 ∷ 8031810176 ∷ 208827064576 ∷ [], false)
+    ∷ (0 ∷ 26 ∷ 676 ∷ 17576 ∷ 456976 ∷ 11881376 ∷ 308915776 ∷ 8031810176 ∷ [], false)
+    ∷ (1 ∷ 26 ∷ 676 ∷ 17575 ∷ 456976 ∷ 11881376 ∷ 308915776 ∷ 8031810176 ∷ [], false)
+    ∷ (1 ∷ 26 ∷ 676 ∷ 17576 ∷ 456976 ∷ 11881376 ∷ 308915776 ∷ 8031810177 ∷ [], false)
+    ∷ (1 ∷ 26 ∷ 17576 ∷ 676 ∷ 456976 ∷ 11881376 ∷ 308915776 ∷ 8031810176 ∷ [], false)
+    ∷ (8031810176 ∷ 308915776 ∷ 11881376 ∷ 456976 ∷ 17576 ∷ 676 ∷ 26 ∷ 1 ∷ [], false)
+    ∷ (26 ∷ 676 ∷ 17576 ∷ 456976 ∷ 11881376 ∷ 308915776 ∷ 8031810176 ∷ 208827064576 ∷ [], false)
+    ∷ (replicate 8 0, false)
+    ∷ []
+
+tables-hold : map (λ (c : List ℕ × Bool). rightWeights (c .0)) tables ≡ map (λ (c : List ℕ × Bool). c .1) tables
+unfolding powers tables
+tables-hold = refl
+
+-- by the first of them the sum of P5's labels is their number, and LA, with its letters the other way round than AL, is
+-- 12 * 26 + 1
+sums-hold :
+    (map (λ (c : List ℕ × ℕ). weighted powers (c .0)) labels ≡ map (λ (c : List ℕ × ℕ). c .1) labels)
+    × (weighted powers (76 ∷ 65 ∷ []) ≡ 313)
+unfolding labels powers rank weighted
+sums-hold = (refl, refl)

@@ -63,13 +63,13 @@ abbrev pub largest : ℕ → ℕ
 largest zero = 0
 largest (suc k) = 26 * largest k + 26
 
-pub largest-rises : (i j : ℕ) → i ≤ j → largest i ≤ largest j
+largest-rises : (i j : ℕ) → i ≤ j → largest i ≤ largest j
 largest-rises zero j h = omega arith
 largest-rises (suc i) zero h = absurd (omega arith)
 largest-rises (suc i) (suc j) h = omega (arith, largest-rises i j (omega arith))
 
 -- a letter more: what n becomes
-pub number-step : (k n b : ℕ) → n ≤ largest k → 26 * n + rank b ≤ largest (suc k)
+number-step : (k n b : ℕ) → n ≤ largest k → 26 * n + rank b ≤ largest (suc k)
 number-step k n b h = omega (arith, rank-most b)
 
 shift : (k m : ℕ) → suc k + m ≡ k + suc m
@@ -80,6 +80,12 @@ number-within k n [] h = subst (λ (m : ℕ). n ≤ largest m) (sym (add-zero k)
 number-within k n (b ∷ bs) h =
     subst (λ (m : ℕ). numberFrom (26 * n + rank b) bs ≤ largest m) (shift k (length bs))
     (number-within (suc k) (26 * n + rank b) bs (number-step k n b h))
+
+-- the number of at most eight bytes, whatever they are
+pub number-most : (bs : List ℕ) → length bs ≤ labelLength → labelNumber bs ≤ labelEnd
+unfolding labelNumber
+number-most bs h =
+    omega (arith, number-within 0 0 bs (omega arith), largest-rises (0 + length bs) labelLength (omega arith))
 
 number-above : (n : ℕ) (bs : List ℕ) → all isLetter bs ≡ true → n + length bs ≤ numberFrom n bs
 number-above n [] h = omega arith
@@ -181,7 +187,7 @@ unfolding labelNumber
 label-range bs h =
     let p = parts-of-label bs h in (
       omega (arith, number-above 0 bs (p .2), p .0),
-      omega (arith, number-within 0 0 bs (omega arith), largest-rises (0 + length bs) 8 (omega (arith, p .1))),
+      number-most bs (p .1),
     )
 
 -- the letters of a label's number are that label

@@ -1,28 +1,29 @@
--- The loops of this crate: reading a label's number letter by letter, and writing a number's letters from the last.
+-- The loops of this crate: summing a label's letters, and writing a number's letters, each from the last.
 -- In order: numbers of other bytes; `Read`, the invariant of `label_number`, with its laws; `Written`, that of
 -- `letters_of`, with its laws.
 -- Assumes nothing.
 use mathlib.Core.Bool.{true, false, _&&_, _||_, and-false}
 use mathlib.Core.List.{List, [], _∷_, _++_, map}
 use mathlib.Core.Logic.{_⊎_, inl, inr, ⊎-elim}
-use mathlib.Core.Path.{_≡_, refl, sym, _∙_, ap, subst}
-use Prim.Native.Nat.{ℕ, zero, suc, _+_, _-_, _*_, _/_, _%_, _≤_, _<_}
-use native.Mathlib.Nat.{le-trans}
-use native.Mathlib.Numerals.{add-one}
+use mathlib.Core.Path.{_≡_, refl, sym, _∙_, ap}
+use Prim.Native.Nat.{ℕ, zero, suc, _+_, _-_, _*_, _/_, _%_, _^_, _≤_, _<_}
+use native.Mathlib.Nat.{add-comm, mul-le-mul}
 use native.Mathlib.Omega.{arith}
-use lib.ListN.{length, getD, take, drop, drop-of-length-le, replicate}
+use lib.ListN.{length, length-drop, getD, take, drop, drop-of-length-le, replicate}
 use lib.Seq.{drop-cons, take-append-add}
 use lib.Dec.{leb, ltb}
-use borrow.Author.Tests.{lt-ltb, le-ltb, le-leb, lt-leb}
-use Rattle.lists.specs.Choice.{pick}
+use borrow.Author.Tests.{lt-ltb, le-leb, lt-leb}
 use Rattle.lists.specs.Members.{all}
 use Rattle.lists.proofs.Choice.{bool-cases, or-right, pick-true, pick-false}
-use Rattle.label.specs.Label.{labelEnd, labelLength, rank, isLetter, isLabel, numberFrom, labelNumber}
+use Rattle.lists.proofs.Members.{all-map, all-getD}
+use Rattle.label.specs.Label.{labelEnd, labelLength, rank, isLetter, isLabel}
 use Rattle.label.specs.Label.{capital, capitals, isLabelField, fieldLabelNumber, numberOrNone}
 use Rattle.label.specs.Label.{lettersBefore, lettersOf, LabelRead, LettersWritten}
+use Rattle.label.specs.Weights.{rightWeights, weighted}
 use Rattle.label.specs.declared.LabelField.the-variants.{Number, Malformed}
-use Rattle.label.proofs.Labels.{largest, largest-rises, number-step, letters-are, none-left}
+use Rattle.label.proofs.Labels.{letter-is, largest, letters-are, none-left}
 use Rattle.label.proofs.Fields.{capitals-length, field-range}
+use Rattle.label.proofs.Weights.{weight-most, weighted-number, sum-most}
 
 -- ---- bytes that are no label field
 
@@ -46,57 +47,90 @@ none-short bs h = none-of bs (field-is bs ∙ rw (lt-leb 1 (length bs) h))
 pub none-long : (bs : List ℕ) → 8 < length bs → 0 ≡ numberOrNone bs
 none-long bs h = none-of bs (field-is bs ∙ rw (lt-leb (length bs) 8 h) (and-false (leb 1 (length bs))))
 
--- ---- reading: i bytes are read, all of them letters, and the number of their capitals is n
+-- ---- reading from the last: the k bytes at the end are read, all of them letters, and n is their sum
 
-pub record Read (bs : List ℕ) (i n : ℕ) : Type 0 where
-  pub within : i ≤ length bs
-  pub small : n ≤ largest i
-  pub letters : all isLetter (capitals bs) ≡ all isLetter (capitals (drop i bs))
-  pub number : numberFrom 0 (capitals bs) ≡ numberFrom n (capitals (drop i bs))
+pub record Read (weights bs : List ℕ) (k n : ℕ) : Type 0 where
+  pub within : k ≤ length bs
+  pub letters : all isLetter (capitals (drop (length bs - k) bs)) ≡ true
+  pub number : n ≡ weighted weights (capitals (drop (length bs - k) bs))
 
-pub read-none : (bs : List ℕ) → Read bs 0 0
-read-none bs = record { within = omega arith; small = omega arith; letters = refl; number = refl }
+pub read-none : (ws bs : List ℕ) → Read ws bs 0 0
+unfolding capitals weighted
+read-none ws bs =
+    let none : drop (length bs - 0) bs ≡ [] = drop-of-length-le bs {i = length bs - 0} (omega arith) in
+    record { within = omega arith; letters = rw none; number = rw none }
 
--- while a letter is left of at most eight, n is a number of at most seven
-pub number-fits : (bs : List ℕ) (i n : ℕ) → i < length bs → length bs ≤ 8 → Read bs i n → n ≤ largest 7
-number-fits bs i n h hi r = le-trans (r .small) (largest-rises i 7 (omega arith))
+-- the place of the byte that k bytes follow
+abbrev pub place : List ℕ → ℕ → ℕ
+place bs k = length bs - 1 - k
 
--- the capitals of the bytes from place i on: that of the byte there, then the others'
-capitals-from : (bs : List ℕ) (i : ℕ) → i < length bs
-    → capitals (drop i bs) ≡ capital (getD bs i 0) ∷ capitals (drop (i + 1) bs)
+-- its capital stands before those of the k bytes
+capitals-from : (bs : List ℕ) (k : ℕ) → k < length bs
+    → capitals (drop (length bs - (k + 1)) bs) ≡ capital (getD bs (place bs k) 0) ∷ capitals (drop (length bs - k) bs)
 unfolding capitals
-capitals-from bs i h = ap (map capital) (drop-cons bs i 0 h) ∙ rw (add-one i)
+capitals-from bs k h =
+    let here : length bs - (k + 1) ≡ place bs k = omega arith in
+    let next : suc (place bs k) ≡ length bs - k = omega arith in
+    rw (here, ← next) (ap (map capital) (drop-cons bs (place bs k) 0 (omega arith)))
 
--- a letter more
-pub read-more : (bs : List ℕ) (i n : ℕ) → i < length bs → 0 < rank (capital (getD bs i 0)) → Read bs i n
-    → Read bs (i + 1) (26 * n + rank (capital (getD bs i 0)))
-unfolding isLetter
-read-more bs i n h g r = record {
+-- so many are read
+read-length : (bs : List ℕ) (k : ℕ) → k ≤ length bs → length (capitals (drop (length bs - k) bs)) ≡ k
+read-length bs k h =
+    omega (arith, capitals-length (drop (length bs - k) bs), length-drop (length bs - k) bs)
+
+-- a letter more: its rank times the weight for the k letters after it
+pub read-more : (ws bs : List ℕ) (k n : ℕ) → k < length bs → 0 < rank (capital (getD bs (place bs k) 0))
+    → Read ws bs k n → Read ws bs (k + 1) (n + rank (capital (getD bs (place bs k) 0)) * getD ws k 0)
+unfolding isLetter weighted
+read-more ws bs k n h g r = record {
   within = omega arith;
-  small = subst (λ (m : ℕ). 26 * n + rank (capital (getD bs i 0)) ≤ largest m) (sym (add-one i))
-      (number-step i n (capital (getD bs i 0)) (r .small));
-  letters = r .letters ∙ rw (capitals-from bs i h, lt-ltb 0 (rank (capital (getD bs i 0))) g);
-  number = r .number ∙ rw (capitals-from bs i h);
+  letters = rw (capitals-from bs k h, lt-ltb 0 (rank (capital (getD bs (place bs k) 0))) g) (r .letters);
+  number = rw (capitals-from bs k h, read-length bs k (r .within), ← r .number)
+      (add-comm n (rank (capital (getD bs (place bs k) 0)) * getD ws k 0));
 }
 
+-- a rank's product with any weight fits, and can be added to n, which is at most the largest label's number
+pub product-fits : (ws : List ℕ) (r j : ℕ) → rightWeights ws ≡ true → r ≤ 26 → j < 8
+    → r * getD ws j 0 ≤ 26 * 26 ^ 7
+product-fits ws r j t h g = mul-le-mul h (weight-most ws t j g)
+
+pub sum-fits : (ws bs : List ℕ) (k n r j : ℕ) → rightWeights ws ≡ true → length bs ≤ 8 → Read ws bs k n → r ≤ 26
+    → j < 8 → n + r * getD ws j 0 ≤ labelEnd + 26 * 26 ^ 7
+sum-fits ws bs k n r j t hi read h g =
+    omega (
+      arith,
+      read .number,
+      sum-most ws (capitals (drop (length bs - k) bs)) t (omega (arith, read-length bs k (read .within), read .within)),
+      product-fits ws r j t h g,
+    )
+
 -- a byte that is no letter
-pub read-stop : (bs : List ℕ) (i n : ℕ) → i < length bs → rank (capital (getD bs i 0)) ≡ 0 → Read bs i n
-    → 0 ≡ numberOrNone bs
-unfolding isLetter
-read-stop bs i n h g r =
-    let stops : all isLetter (capitals (drop i bs)) ≡ false =
-    rw (capitals-from bs i h, le-ltb 0 (rank (capital (getD bs i 0))) (omega arith)) in
-    none-of bs
-    (field-is bs ∙ rw (r .letters ∙ stops, and-false (leb (length bs) labelLength)) (and-false (leb 1 (length bs))))
+pub read-stop : (bs : List ℕ) (i : ℕ) → rank (capital (getD bs i 0)) ≡ 0 → i < length bs → 0 ≡ numberOrNone bs
+unfolding capitals
+read-stop bs i g h = ⊎-elim (λ e. absurd (letter e)) other (bool-cases (all isLetter (capitals bs)))
+  where
+    letter : all isLetter (capitals bs) ≡ true → ⊥
+    letter e =
+        let at : isLetter (capital (getD bs i 0)) ≡ true =
+        all-getD (λ b. isLetter (capital b)) bs 0 (sym (all-map isLetter capital bs) ∙ e) i h in
+        omega (arith, letter-is (capital (getD bs i 0)) at)
+
+    other : all isLetter (capitals bs) ≡ false → 0 ≡ numberOrNone bs
+    other e =
+        none-of bs
+        (field-is bs ∙ rw (e, and-false (leb (length bs) labelLength)) (and-false (leb 1 (length bs))))
 
 -- all letters
-pub read-all : (bs : List ℕ) (i n : ℕ) → 1 ≤ length bs → length bs ≤ 8 → length bs ≤ i → Read bs i n
-    → n ≡ numberOrNone bs
-unfolding capitals fieldLabelNumber labelNumber
-read-all bs i n lo hi h r =
-    let letters : all isLetter (capitals bs) ≡ true = r .letters ∙ rw (drop-of-length-le bs h) in
-    let number : numberFrom 0 (capitals bs) ≡ n = r .number ∙ rw (drop-of-length-le bs h) in
-    sym (label-of bs (field-is bs ∙ rw (le-leb 1 (length bs) lo, le-leb (length bs) labelLength hi) letters) ∙ number)
+pub read-all : (ws bs : List ℕ) (k n : ℕ) → rightWeights ws ≡ true → 1 ≤ length bs → length bs ≤ 8 → length bs ≤ k
+    → Read ws bs k n → n ≡ numberOrNone bs
+unfolding fieldLabelNumber
+read-all ws bs k n t lo hi h r =
+    let all-read : length bs - k ≡ 0 = omega arith in
+    let letters : all isLetter (capitals bs) ≡ true = rw all-read at (r .letters) in
+    let number : n ≡ weighted ws (capitals bs) = rw all-read at (r .number) in
+    number
+    ∙ weighted-number ws (capitals bs) t (omega (arith, capitals-length bs))
+    ∙ sym (label-of bs (field-is bs ∙ rw (le-leb 1 (length bs) lo, le-leb (length bs) labelLength hi) letters))
 
 -- ---- the field: 0 stands for no label, and is no label's number
 

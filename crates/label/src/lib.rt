@@ -1,16 +1,31 @@
-// Labels (document 01, 'Minutes, labels, tuples'): the number of a label's letters, the letters of a number, and the
-// reader of a label field, which may hold small letters (document 02, (a)); letters are written as capitals.
+// Labels (document 01, 'Minutes, labels, tuples'): the number of a label's letters, taken from a table of weights
+// (document 02, (d)), the letters of a number, and the reader of a label field, which may hold small letters (document
+// 02, (a)); letters are written as capitals.
 //
 // Every function takes any number and any bytes. Cost: a few operations for each letter, at most eight letters. The
-// definitions that the promises cite are in specs/Label. Their laws and the theorems about them are in proofs/: Labels,
-// Fields.
+// definitions that the promises cite are in specs/: Label, Weights. Their laws and the theorems about them are in
+// proofs/: Labels, Fields, Weights.
+ghost use mathlib.Core.Bool.{true};
 ghost use mathlib.Core.Path.{_≡_};
 ghost use mathlib.Core.List.{_∷_};
 ghost use lib.ListN.{take};
 ghost use Rattle.label.specs.Label.{rank, capital, numberOrNone, LabelRead, LettersWritten};
+ghost use Rattle.label.specs.Weights.{rightWeights};
 
 // The number of the largest label, ZZZZZZZZ.
 pub const LABEL_END: u64 = 217_180_147_158;
+
+// The weights of a label's letters, from the last letter's on: the powers of 26 from the zeroth to the seventh.
+const WEIGHTS: [u64; 8] = [
+    1,
+    26,
+    676,
+    17_576,
+    456_976,
+    11_881_376,
+    308_915_776,
+    8_031_810_176,
+];
 
 // A label field that was read: the label's number, or that the field is no label.
 pub enum LabelField {
@@ -56,7 +71,15 @@ fn capital_of(b: u8) -> u8
     b - 32
 }
 
-// The number of 1 to 8 letters, capital or small; 0 for any other bytes.
+// The table, which passes the test of a whole table: the first weight 1, each other 26 times the one before.
+fn weight_table() -> [u64; 8]
+    ensures { λ r. ⌜ rightWeights r ≡ true ⌝ }
+{
+    WEIGHTS
+}
+
+// The number of 1 to 8 letters, capital or small: each letter's rank times its weight, summed from the last letter on.
+// 0 for any other bytes.
 pub fn label_number(letters: &[u8]) -> u64
     ensures { λ r. ⌜ r ≡ numberOrNone (now (letters .entry)) ⌝ }
 {
@@ -67,15 +90,17 @@ pub fn label_number(letters: &[u8]) -> u64
     if 8 < len {
         return 0;
     }
+    let weights = weight_table();
     let mut n: u64 = 0;
-    let mut i: usize = 0;
-    while i < len {
+    let mut after: usize = 0;
+    while after < len {
+        let i = len - 1 - after;
         let letter = rank_of(capital_of(letters[i]));
         if letter == 0 {
             return 0;
         }
-        n = 26 * n + letter;
-        i += 1;
+        n += letter * weights[after];
+        after += 1;
     }
     n
 }
