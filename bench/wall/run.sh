@@ -9,8 +9,8 @@
 #
 #     OLD=path bench/wall/run.sh
 #
-# times another build of `wall` too, as a further row: the two programs take turns, nine each, and 45 each for the
-# reader, whose turns are short. So what else the machine does meets both alike, and the best turn of each counts.
+# times another build of `wall` too, as a further row: the two programs take turns, 45 each, so that what else the
+# machine does meets both alike, and the best turn of each counts.
 set -eu
 
 old=${OLD:+$(realpath "$OLD")}
@@ -70,11 +70,11 @@ def run(commands, session, turns):
     """The best time of each command and what it prints; with several commands one turn of each after the other."""
     taken = [[turn(c, session) for c in commands] for _ in range(turns)]
     return [min(row[k][0] for row in taken) for k in range(len(commands))], [printed for _, printed in taken[-1]]
-turns = 9 if len(walls) > 1 else 5
-def of_walls(session, turns):
+turns = 45 if len(walls) > 1 else 25
+def of_walls(session):
     # the old program's turn comes first
     return (answers[::-1] for answers in run([[wall] for wall in walls[::-1]], session, turns))
-times, printed = of_walls("lines", turns)
+times, printed = of_walls("lines")
 (anew,), a = run([[room + "/c", "anew"]], "lines", 5)
 (kept,), k = run([[room + "/c", "kept"]], "lines", 5)
 if any(p != printed[0] for p in printed + a + k):
@@ -88,12 +88,12 @@ for name, ours in zip(("", " (old)"), times):
 if len(times) > 1:
     print(f"wall / old: {times[0] / times[1]:.2f}")
 print()
-print(f"1,000,000 lines read and refused, nanoseconds of processor time for each; best of {5 * turns} turns, of the C "
+print(f"1,000,000 lines read and refused, nanoseconds of processor time for each; best of {turns} turns, of the C "
       "program of 5")
 print("| letters in a label | wall |" + (" wall (old) | wall / old |" if len(walls) > 1 else "") + " C |")
 print("|---|---|" + ("---|---|" if len(walls) > 1 else "") + "---|")
 for length in ("1", "8", "any"):
-    times, printed = of_walls("lines-" + length, 5 * turns)
+    times, printed = of_walls("lines-" + length)
     (c,), p = run([[room + "/c", "kept"]], "lines-" + length, 5)
     if any(answer != printed[0] for answer in printed + p):
         sys.exit("the programs print different refusals")
