@@ -590,7 +590,7 @@ def build(folder, program, edit=None):
 
 # Whether join_cases writes what it should; not where it stops with an error or does not end. What it writes is compared
 # as it comes: at the first byte that differs it is stopped.
-def writes(program):
+def writes(program, edit=None):
     wanted = (ROOT / 'crates' / 'join_cases' / 'stdout').read_bytes()
     with subprocess.Popen([program], stdout=subprocess.PIPE, stderr=subprocess.DEVNULL) as ran:
         late = threading.Timer(STOPS_AFTER, ran.kill)
@@ -603,9 +603,13 @@ def writes(program):
             ran.kill()
     return ran.returncode == 0 and written == wanted
 
-# Whether the tests of wall are content.
-def contents(program):
-    for test in (['wall_failures.py'], ['wall_sessions.py', str(SESSIONS)]):
+# Whether the tests of wall are content. A test that notices nothing runs to its end, so the one that is likelier to
+# notice the edit comes first: failures for what reads and writes, sessions for what is printed.
+def contents(program, edit=None):
+    tests = [['wall_failures.py'], ['wall_sessions.py', str(SESSIONS)]]
+    if edit and not edit[0].startswith('wall/'):
+        tests.reverse()
+    for test in tests:
         try:
             ran = subprocess.run(
                 [sys.executable, ROOT / 'tests' / test[0], *test[1:]], env={**os.environ, 'WALL': str(program)},
@@ -626,7 +630,7 @@ def main():
             if not passes(build(room / program, program)):
                 fail(f'the unchanged sources of {program} do not pass')
         with ThreadPoolExecutor(os.cpu_count()) as pool:
-            passed = list(pool.map(lambda k, program, passes, edit: passes(build(room / str(k), program, edit)),
+            passed = list(pool.map(lambda k, program, passes, edit: passes(build(room / str(k), program, edit), edit),
                                    range(len(tried)), *zip(*tried)))
     missed = [edit for (_, _, edit), content in zip(tried, passed) if content]
     for path, old, new in missed:
