@@ -590,7 +590,7 @@ def build(folder, program, edit=None):
 
 # Whether join_cases writes what it should; not where it stops with an error or does not end. What it writes is compared
 # as it comes: at the first byte that differs it is stopped.
-def writes(program, edit=None):
+def writes(program):
     wanted = (ROOT / 'crates' / 'join_cases' / 'stdout').read_bytes()
     with subprocess.Popen([program], stdout=subprocess.PIPE, stderr=subprocess.DEVNULL) as ran:
         late = threading.Timer(STOPS_AFTER, ran.kill)
@@ -604,11 +604,10 @@ def writes(program, edit=None):
     return ran.returncode == 0 and written == wanted
 
 # Whether the tests of wall are content. A test that notices nothing runs to its end, so the one that is likelier to
-# notice the edit comes first: failures for what reads and writes, sessions for what is printed.
-def contents(program, edit=None):
-    tests = [['wall_failures.py'], ['wall_sessions.py', str(SESSIONS)]]
-    if edit and not edit[0].startswith('wall/'):
-        tests.reverse()
+# notice an edit comes first: failures where wall reads and writes, sessions where what it prints is made.
+FAILURES_FIRST = (['wall_failures.py'], ['wall_sessions.py', str(SESSIONS)])
+
+def contents(program, tests=FAILURES_FIRST):
     for test in tests:
         try:
             ran = subprocess.run(
@@ -620,17 +619,21 @@ def contents(program, edit=None):
             return False
     return True
 
+def prints(program):
+    return contents(program, FAILURES_FIRST[::-1])
+
 def main():
     if not shutil.which('rustc'):
         fail('there is no rustc')
-    tried = [('join_cases', writes, edit) for edit in CALLS] + [('wall', contents, edit) for edit in WALL]
+    tried = [('join_cases', writes, edit) for edit in CALLS]
+    tried += [('wall', contents if edit[0].startswith('wall/') else prints, edit) for edit in WALL]
     with tempfile.TemporaryDirectory() as room:
         room = Path(room)
         for program, passes in (('join_cases', writes), ('wall', contents)):
             if not passes(build(room / program, program)):
                 fail(f'the unchanged sources of {program} do not pass')
         with ThreadPoolExecutor(os.cpu_count()) as pool:
-            passed = list(pool.map(lambda k, program, passes, edit: passes(build(room / str(k), program, edit), edit),
+            passed = list(pool.map(lambda k, program, passes, edit: passes(build(room / str(k), program, edit)),
                                    range(len(tried)), *zip(*tried)))
     missed = [edit for (_, _, edit), content in zip(tried, passed) if content]
     for path, old, new in missed:
