@@ -3,3 +3,4 @@ pub mod OpenCall
 pub mod ChangeCalls
 pub mod SweepCall
 pub mod Repartitioning
+pub mod Moves

@@ -1,7 +1,7 @@
 -- Laws of Same (specs/Same): the same members, each as often, in some order.
--- In order: totals, as helpers; what holds for any test: Same is an equivalence, ∷, ++ and gather, removal by
--- overwriting, a split by home; for a test that is an equality: a member taken out, equal totals, tallies, lengths and
--- tests, keep, map, gather, without.
+-- In order: totals, as helpers; what holds for any test: Same is an equivalence, two members exchanged, ∷, ++ and
+-- gather, removal by overwriting, a split by home; for a test that is an equality: a member taken out, equal totals,
+-- tallies, lengths and tests, keep, map, gather, without.
 use mathlib.Core.Bool.{Bool, true, false, not, Bool·not-not}
 use mathlib.Core.List.{List, [], _∷_, _++_, map}
 use mathlib.Core.Logic.{_⊎_, inl, inr}
@@ -67,6 +67,20 @@ module _ {A : Type 0} (same : A → A → Bool) where
   same-of-total : (xs ys : List A) → ((f : A → ℕ) → total f xs ≡ total f ys) → Same same xs ys
   same-of-total xs ys h =
       λ x. tally-total (same x) xs ∙ h (λ y. pick (same x y) 1 0) ∙ sym (tally-total (same x) ys)
+
+  -- two members, each in the other's place
+  pub same-exchange : (xs : List A) (i k : ℕ) (d : A) → i < length xs → k < length xs
+      → Same same (set (set xs i (getD xs k d)) k (getD xs i d)) xs
+  same-exchange xs i k d h l = same-of-total (set half k (getD xs i d)) xs sums
+    where
+      half : List A
+      half = set xs i (getD xs k d)
+
+      sums : (f : A → ℕ) → total f (set half k (getD xs i d)) ≡ total f xs
+      sums f =
+          let once = total-set f xs i (getD xs k d) d h in
+          let twice = total-set f half k (getD xs i d) d (rw (length-set xs i (getD xs k d)) l) in
+          omega (arith, ap f (last-set xs i k d))
 
   -- one more member in front, and one less
   pub same-cons : (x : A) (xs ys : List A) → Same same xs ys → Same same (x ∷ xs) (x ∷ ys)

@@ -1,0 +1,5 @@
+-- The plan with new cuts; one store moved, over the kind of its records; then tuples and rows; checks 9 and 10.
+pub mod Recuts
+pub mod Moving
+pub mod TuplesAndRows
+pub mod Numbers
