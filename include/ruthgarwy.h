@@ -168,14 +168,17 @@ uint64_t ruthgarwy_sweep(const uint64_t *plan, size_t plan_words,
 
 /*
  * Recut: puts new last minutes, `cuts`, RUTHGARWY_CUT_WORDS words, into the plan's first places, as many as it has
- * lanes, on an empty wall. The lane count, the capacities and the other places stay; the stores are only read. Can
- * be refused with 1 to 5 and 13. Counts: none.
+ * lanes, and moves every tuple and every row to the lane that then contains its last minute, within the three stores
+ * and with no other memory. The lane count, the capacities and the other places stay. What moves are the stored rows
+ * as they stand. The order of tuples and rows within a lane after it is free. Can be refused with 1 to 5, also with 2
+ * for the new last minutes, with 9 if a tuple lane of either side would pass its capacity, then with 10 for a rows
+ * lane; a refusal changes no word of plan and stores. Counts: none.
  */
 uint64_t ruthgarwy_repartition(uint64_t *plan, size_t plan_words,
                                const uint64_t *cuts, size_t cuts_words,
-                               const uint64_t *outer, size_t outer_words,
-                               const uint64_t *inner, size_t inner_words,
-                               const uint64_t *rows, size_t rows_words,
+                               uint64_t *outer, size_t outer_words,
+                               uint64_t *inner, size_t inner_words,
+                               uint64_t *rows, size_t rows_words,
                                uint64_t *answer, size_t answer_words);
 
 /*

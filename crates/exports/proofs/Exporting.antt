@@ -100,17 +100,17 @@ change-said k plan x y t u outer inner rows answer outer′ inner′ rows′ ans
     (subst (λ v. ChangeExported k plan x v outer inner rows answer outer′ inner′ rows′ answer′ n) f h)
 
 -- a repartition's also of the words that it leaves: refused, they are the plan's as they were
-module _ (ws : List ℕ) (p q : Partitioning) (new new′ : List Chronon) (s : Stores) (a : Answer)
-    (e : p ≡ planIn ws) (f : new ≡ new′) (r : Repartitioned p new s s a q) where
-  said-cuts : Repartitioned (planIn ws) new′ s s a q
-  said-cuts = subst (λ v. Repartitioned (planIn ws) v s s a q) f (subst (λ v. Repartitioned v new s s a q) e r)
+module _ (ws : List ℕ) (p q : Partitioning) (new new′ : List Chronon) (s s′ : Stores) (a : Answer)
+    (e : p ≡ planIn ws) (f : new ≡ new′) (r : Repartitioned p new s s′ a q) where
+  said-cuts : Repartitioned (planIn ws) new′ s s′ a q
+  said-cuts = subst (λ v. Repartitioned (planIn ws) v s s′ a q) f (subst (λ v. Repartitioned v new s s′ a q) e r)
 
-  pub cuts-kept : (a .number ≡ 0 → ⊥) → Repartitioned (planIn ws) new′ s s a (planIn ws)
-  cuts-kept ne = subst (λ v. Repartitioned (planIn ws) new′ s s a v) (said-cuts .refused ne) said-cuts
+  pub cuts-kept : (a .number ≡ 0 → ⊥) → Repartitioned (planIn ws) new′ s s′ a (planIn ws)
+  cuts-kept ne = subst (λ v. Repartitioned (planIn ws) new′ s s′ a v) (said-cuts .refused ne .1) said-cuts
 
   -- accepted, the new last minutes stand in them
   pub cuts-put : (ws′ : List ℕ) → a .number ≡ 0 → length ws ≡ planWords → length new′ ≡ mostPartitions
-      → ws′ ≡ take planHead ws ++ numbers (q .lasts) → Repartitioned (planIn ws) new′ s s a (planIn ws′)
+      → ws′ ≡ take planHead ws ++ numbers (q .lasts) → Repartitioned (planIn ws) new′ s s′ a (planIn ws′)
   cuts-put ws′ z l n h =
-      let back = plan-put-cuts ws l new′ q n (said-cuts .accepted z) in
-      subst (λ v. Repartitioned (planIn ws) new′ s s a v) (sym (ap planIn h ∙ back)) said-cuts
+      let back = plan-put-cuts ws l new′ q n (said-cuts .accepted z .0) in
+      subst (λ v. Repartitioned (planIn ws) new′ s s′ a v) (sym (ap planIn h ∙ back)) said-cuts

@@ -53,16 +53,16 @@ SweepExported plan outer inner rows c d answer rows′ c′ d′ answer′ n =
 
 -- a recut that was called: its own promise, of the plan that the words say after it; refused, it leaves them as they
 -- were
-pub record CutsPut (plan cuts plan′ : List ℕ) (s : Stores) (a : Answer) : Type 0 where
-  pub made : Repartitioned (planIn plan) (minutes cuts) s s a (planIn plan′)
+pub record CutsPut (plan cuts plan′ : List ℕ) (s s′ : Stores) (a : Answer) : Type 0 where
+  pub made : Repartitioned (planIn plan) (minutes cuts) s s′ a (planIn plan′)
   pub long : length plan′ ≡ planWords
   pub kept : (a .number ≡ 0 → ⊥) → plan′ ≡ plan
 
-abbrev pub CutsExported : (plan cuts outer inner rows answer plan′ answer′ : List ℕ) → ℕ → Type 0
-CutsExported plan cuts outer inner rows answer plan′ answer′ n =
+abbrev pub CutsExported : (plan cuts outer inner rows answer plan′ outer′ inner′ rows′ answer′ : List ℕ) → ℕ → Type 0
+CutsExported plan cuts outer inner rows answer plan′ outer′ inner′ rows′ answer′ n =
     Exported wordsOf refusal (lentNumber plan (answerFits answer && eqb (length cuts) mostPartitions)) answer answer′ n
-    (plan′ ≡ plan)
-    (λ a. CutsPut plan cuts plan′ (stores outer inner rows) a)
+    ((plan′ ≡ plan) × (stores outer′ inner′ rows′ ≡ stores outer inner rows))
+    (λ a. CutsPut plan cuts plan′ (stores outer inner rows) (stores outer′ inner′ rows′) a)
 
 -- what a sweep requires in words: number, each side's need, pairs; and of a refusal
 abbrev pub requirementsIn : Requirements → List ℕ

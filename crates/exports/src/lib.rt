@@ -152,19 +152,20 @@ pub extern "C" fn ruthgarwy_sweep(
     layout::tell(a, answer)
 }
 
-// Recut: where it is accepted, puts the new plan's last minutes into the plan's words.
+// Recut: where it is accepted, moves tuples and rows to their new lanes and puts the new plan's last minutes into the
+// plan's words.
 #[no_mangle]
 pub extern "C" fn ruthgarwy_repartition(
     plan: &mut [u64],
     cuts: &[u64],
-    outer: &[u64],
-    inner: &[u64],
-    rows: &[u64],
+    outer: &mut [u64],
+    inner: &mut [u64],
+    rows: &mut [u64],
     answer: &mut [u64],
 ) -> u64
     ensures { λ r. ⌜ CutsExported (now (plan .entry)) (now (cuts .entry))
         (now (outer .entry)) (now (inner .entry)) (now (rows .entry)) (now (answer .entry))
-        (now (plan .exit)) (now (answer .exit)) r ⌝ }
+        (now (plan .exit)) (now (outer .exit)) (now (inner .exit)) (now (rows .exit)) (now (answer .exit)) r ⌝ }
 {
     let fits = answer.len() == ANSWER_WORDS;
     let refusal = layout::lent_number(plan, fits & (cuts.len() == PLACES));

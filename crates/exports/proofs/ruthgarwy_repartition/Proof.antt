@@ -46,10 +46,11 @@ returns c =
     let lent = refused .before .before in
     let start = lent .before .before .before .before .before .before .before .before in
     let a = start .args in
-    exported-refused {Kept = a .plan .now ≡ a .plan .now}
+    let s = stores (a .outer .now) (a .inner .now) (a .rows .now) in
+    exported-refused {Kept = (a .plan .now ≡ a .plan .now) × (s ≡ s)}
     (lentNumber (a .plan .now) (right start)) (a .answer .now) (tell .tell .last .1 .0)
     (lent .lent-number .result) (tell .tell .result) (refused .refused .result) (lent .lent-number .ensures)
-    (refused .before .if1 .taken) (refused .refused .ensures) (tell .tell .ensures) refl
+    (refused .before .if1 .taken) (refused .refused .ensures) (tell .tell .ensures) (refl, refl)
 
 plan-in-requires : tie.Need-plan-in-requires
 plan-in-requires c κs =
@@ -92,61 +93,85 @@ same-length-3 c = search needs
 same-length-4 : tie.Need-same-length-4
 same-length-4 c = search needs
 
-returns-2 : tie.Need-returns-2
-returns-2 c =
-    let tell = c .before .before in
-    let checked = tell .before .before in
-    let called = checked .before .before .before in
-    let cuts = called .before in
-    let plan = cuts .before in
-    let a = start plan .args in
-    let s = stores (a .outer .now) (a .inner .now) (a .rows .now) in
-    let new = cuts .lasts-in .ensures ∙ minutes-whole (a .cuts .now) (cuts-long plan) in
-    exported-called {Kept = a .plan .now ≡ a .plan .now}
-    {Done = λ r. CutsPut (a .plan .now) (a .cuts .now) (a .plan .now) s r}
-    (lentNumber (a .plan .now) (right (start plan))) (a .answer .now) (tell .tell2 .last .1 .0) (tell .tell2 .result)
-    (called .repartition .result .answer) (zero plan) (answer-fits plan) (tell .tell2 .ensures)
-    (record {
-      made =
-          cuts-kept (a .plan .now) (plan .plan-in .result) (called .repartition .result .plan) (cuts .lasts-in .result)
-          (minutes (a .cuts .now)) s (called .repartition .result .answer) (plan .plan-in .ensures) new
-          (called .repartition .ensures) (checked .if2 .taken);
-      long = plan-long plan;
-      kept = λ ne. refl;
-    })
-
-put-lasts-requires : tie.Need-put-lasts-requires
-put-lasts-requires c κs = plan-long (c .before .before .before .before .before .before .before .before)
-
-tell-requires-3 : tie.Need-tell-requires-3
-tell-requires-3 c κs = search needs
-
 same-length-5 : tie.Need-same-length-5
 same-length-5 c = search needs
 
 same-length-6 : tie.Need-same-length-6
 same-length-6 c = search needs
 
+same-length-7 : tie.Need-same-length-7
+same-length-7 c = search needs
+
+returns-2 : tie.Need-returns-2
+returns-2 c =
+    let tell = c .before .before in
+    let checked = tell .before .before in
+    let called = checked .before .before .before .before .before .before .before .before .before in
+    let cuts = called .before .before .before .before in
+    let plan = cuts .before in
+    let a = start plan .args in
+    let s = stores (a .outer .now) (a .inner .now) (a .rows .now) in
+    let o = called .repartition .last .1 .1 in
+    let s′ = stores (o .0) (o .1 .0) (o .1 .1 .0) in
+    let new = cuts .lasts-in .ensures ∙ minutes-whole (a .cuts .now) (cuts-long plan) in
+    exported-called {Kept = (a .plan .now ≡ a .plan .now) × (s′ ≡ s)}
+    {Done = λ r. CutsPut (a .plan .now) (a .cuts .now) (a .plan .now) s s′ r}
+    (lentNumber (a .plan .now) (right (start plan))) (a .answer .now) (tell .tell2 .last .1 .0) (tell .tell2 .result)
+    (called .repartition .result .answer) (zero plan) (answer-fits plan) (tell .tell2 .ensures)
+    (record {
+      made =
+          cuts-kept (a .plan .now) (plan .plan-in .result) (called .repartition .result .plan) (cuts .lasts-in .result)
+          (minutes (a .cuts .now)) s s′ (called .repartition .result .answer) (plan .plan-in .ensures) new
+          (called .repartition .ensures) (checked .if2 .taken);
+      long = plan-long plan;
+      kept = λ ne. refl;
+    })
+
+put-lasts-requires : tie.Need-put-lasts-requires
+put-lasts-requires c κs =
+    let called = c .before .before .before .before .before .before .before .before .before .before .before .before in
+    plan-long (called .before .before .before .before .before)
+
+tell-requires-3 : tie.Need-tell-requires-3
+tell-requires-3 c κs = search needs
+
+same-length-8 : tie.Need-same-length-8
+same-length-8 c = search needs
+
+same-length-9 : tie.Need-same-length-9
+same-length-9 c = search needs
+
+same-length-10 : tie.Need-same-length-10
+same-length-10 c = search needs
+
+same-length-11 : tie.Need-same-length-11
+same-length-11 c = search needs
+
+same-length-12 : tie.Need-same-length-12
+same-length-12 c = search needs
+
 returns-3 : tie.Need-returns-3
 returns-3 c =
     let tell = c .before .before in
     let put = tell .before .before .before .before in
     let checked = put .before .before .before .before in
-    let called = checked .before .before .before in
-    let cuts = called .before in
+    let called = checked .before .before .before .before .before .before .before .before .before in
+    let cuts = called .before .before .before .before in
     let plan = cuts .before in
     let a = start plan .args in
     let s = stores (a .outer .now) (a .inner .now) (a .rows .now) in
+    let o = called .repartition .last .1 .1 in
+    let s′ = stores (o .0) (o .1 .0) (o .1 .1 .0) in
     let ws′ = put .put-lasts .last .1 .0 in
     let new = cuts .lasts-in .ensures ∙ minutes-whole (a .cuts .now) (cuts-long plan) in
-    exported-called {Kept = ws′ ≡ a .plan .now}
-    {Done = λ r. CutsPut (a .plan .now) (a .cuts .now) ws′ s r}
+    exported-called {Kept = (ws′ ≡ a .plan .now) × (s′ ≡ s)}
+    {Done = λ r. CutsPut (a .plan .now) (a .cuts .now) ws′ s s′ r}
     (lentNumber (a .plan .now) (right (start plan))) (a .answer .now) (tell .tell3 .last .1 .0) (tell .tell3 .result)
     (called .repartition .result .answer) (zero plan) (answer-fits plan) (tell .tell3 .ensures)
     (record {
       made =
           cuts-put (a .plan .now) (plan .plan-in .result) (called .repartition .result .plan) (cuts .lasts-in .result)
-          (minutes (a .cuts .now)) s (called .repartition .result .answer) (plan .plan-in .ensures) new
+          (minutes (a .cuts .now)) s s′ (called .repartition .result .answer) (plan .plan-in .ensures) new
           (called .repartition .ensures) ws′ (checked .if2 .left) (plan-long plan)
           (length-map (a .cuts .now) _ ∙ cuts-long plan)
           (put .put-lasts .ensures);
@@ -170,9 +195,15 @@ ruthgarwy-repartition-spec =
     tell-requires-2
     same-length-3
     same-length-4
+    same-length-5
+    same-length-6
+    same-length-7
     returns-2
     put-lasts-requires
     tell-requires-3
-    same-length-5
-    same-length-6
+    same-length-8
+    same-length-9
+    same-length-10
+    same-length-11
+    same-length-12
     returns-3)
