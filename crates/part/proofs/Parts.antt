@@ -298,9 +298,6 @@ tuple-in = value-in tuples
 pub tuple-part : (k : ℕ) (part : List ℕ) → tupleAt part k ≡ tupleOf (partAt (roomOf tupleWidth k) tupleWidth part)
 tuple-part = value-part tuples
 
-pub tuples-none : (part : List ℕ) → counted part ≡ 0 → tuplesIn part ≡ []
-tuples-none = values-none tuples
-
 pub tuples-appended : Appends tuples tupleWords
 tuples-appended = values-appended tuples tupleWords (λ t. refl) (λ t. refl)
 

@@ -15,15 +15,15 @@ use borrow.Author.Tests.{ltb-true, ltb-false, lt-ltb}
 use Rattle.lists.specs.Members.{all, any, keep, tally, gather, below}
 use Rattle.lists.specs.Same.{Same}
 use Rattle.lists.proofs.Choice.{and-left, and-right, and-both, bool-cases}
-use Rattle.lists.proofs.Members.{all-map, all-imply, any-cong}
+use Rattle.lists.proofs.Members.{all-imply, any-cong}
 use Rattle.lists.proofs.Gather.{map-gather, gather-cong, all-gather}
 use Rattle.lists.proofs.Tally.{length-keep, tally-map, tally-cong}
-use Rattle.lists.proofs.Below.{all-below, below-all, below-any, length-below}
+use Rattle.lists.proofs.Below.{all-below, below-all, below-any}
 use Rattle.lists.proofs.Same.{all-same, same-map}
 use Rattle.interval.specs.Time.{calendarEnd}
 use Rattle.plan.specs.Plan.{planNumber, cutsOf, homeOf, home}
 use Rattle.plan.specs.declared.Partitioning.{Partitioning}
-use Rattle.plan.proofs.Homes.{legal-plan, length-cuts, home-within}
+use Rattle.plan.proofs.Homes.{legal-plan, home-within}
 use Rattle.part.specs.Part.{roomOf, counted, recordsIn, soundPart}
 use Rattle.part.proofs.Parts.{Kind, room-le, room-within, sound-count, sound-records, part-sound}
 use Rattle.store.specs.Store.{partitionAt}
@@ -55,6 +55,15 @@ all-both f g (x ∷ xs) a b =
 -- no number below n passes a test
 none-below : (f : ℕ → Bool) (n : ℕ) → any f (below n) ≡ false → (i : ℕ) → i < n → f i ≡ false
 none-below f n e i l = ⊎-elim (λ t. absurd (false≢true (sym e ∙ below-any f n i l t))) (λ t. t) (bool-cases (f i))
+
+-- a store of n partitions that stands by some plan: its length, and that each partition is sound by a test which legal
+-- records alone pass
+pub record Standing {A : Type 0} (kind : Kind A) (of : Held kind) (capacity n : ℕ) (ws : List ℕ) : Type 0 where
+  pub long : length ws ≡ n * roomOf (kind .width) capacity
+  pub ok : ℕ → List ℕ → Bool
+  pub ok-legal : (i : ℕ) (r : List ℕ) → ok i r ≡ true → of .legal (kind .value r) ≡ true
+  pub sound : (i : ℕ) → i < n
+      → soundPart (kind .width) capacity (ok i) (partitionAt (roomOf (kind .width) capacity) ws i) ≡ true
 
 -- fewer words of records are fewer records
 room-back : (w m n : ℕ) → 1 ≤ w → roomOf w m ≤ roomOf w n → m ≤ n
@@ -110,14 +119,12 @@ module _ {A : Type 0} (kind : Kind A) (of : Held kind) (q : Partitioning) (capac
       any-cong _ (λ i. ltb capacity (heldAt w (cutsOf q) (records ws) i)) (below (q .count))
       (λ i. ap (ltb capacity) (held-at ws i))
 
-  -- a store that stands by some plan: its length, and that its records lie within its partitions and are legal
-  module _ (ws : List ℕ) (long : length ws ≡ q .count * room) (ok : ℕ → List ℕ → Bool)
-      (ok-legal : (i : ℕ) (r : List ℕ) → ok i r ≡ true → of .legal (kind .value r) ≡ true)
-      (stands : (i : ℕ) → i < q .count → soundPart w capacity (ok i) (partitionAt room ws i) ≡ true) where
+  -- its records lie within its partitions, are legal and have a home each; where they fit, it can be moved
+  module _ (ws : List ℕ) (stands : Standing kind of capacity (q .count) ws) where
     pub counts : Counts w room (q .count) ws
     counts = record {
-      long = long;
-      within = λ i l. room-le w _ capacity (sound-count w capacity (ok i) _ (stands i l));
+      long = stands .long;
+      within = λ i l. room-le w _ capacity (sound-count w capacity (stands .ok i) _ (stands .sound i l));
     }
 
     all-legal : all (λ r. of .legal (kind .value r)) (records ws) ≡ true
@@ -125,8 +132,8 @@ module _ {A : Type 0} (kind : Kind A) (of : Held kind) (q : Partitioning) (capac
     all-legal =
         all-gather _ (λ i. recordsIn w (partitionAt room ws i)) (below (q .count))
         ∙ below-all _ (q .count)
-        (λ i l. all-imply (ok i) _ (recordsIn w (partitionAt room ws i)) (ok-legal i)
-        (sound-records w capacity (ok i) (partitionAt room ws i) (stands i l)))
+        (λ i l. all-imply (stands .ok i) _ (recordsIn w (partitionAt room ws i)) (stands .ok-legal i)
+        (sound-records w capacity (stands .ok i) (partitionAt room ws i) (stands .sound i l)))
 
     pub homed : Homed w (cutsOf q) (records ws)
     homed =
@@ -170,9 +177,9 @@ module _ {A : Type 0} (kind : Kind A) (of : Held kind) (q : Partitioning) (capac
           (sym (all-gather _ (λ i. recordsIn w (partitionAt room ws′ i)) (below (q .count))) ∙ still-legal) i l
 
       part-long : (i : ℕ) → i < q .count → length (partitionAt room ws′ i) ≡ room
-      part-long i l = partition-length room (q .count) i ws′ (r .long ∙ long) l
+      part-long i l = partition-length room (q .count) i ws′ (r .long ∙ stands .long) l
 
-      pub settled-sound : (i : ℕ) → i < q .count
+      settled-sound : (i : ℕ) → i < q .count
           → soundPart w capacity (λ r. of .legal (kind .value r) && eqb (home q (of .last (kind .value r))) i)
           (partitionAt room ws′ i) ≡ true
       settled-sound i l =
@@ -185,7 +192,13 @@ module _ {A : Type 0} (kind : Kind A) (of : Held kind) (q : Partitioning) (capac
           (λ r e. rw (of .last-is r) e) (s .homes)))
           (s .tail)
 
-      pub held-same : Same (of .same) (values ws′) (values ws)
+      held-same : Same (of .same) (values ws′) (values ws)
       held-same =
           rw (values-are ws′, values-are ws)
           (same-map sameWords same-words-is (of .same) (kind .value) (records ws′) (records ws) (r .same))
+
+      pub after-move : ((i : ℕ) → i < q .count
+          → soundPart w capacity (λ r. of .legal (kind .value r) && eqb (home q (of .last (kind .value r))) i)
+          (partitionAt room ws′ i) ≡ true)
+          × Same (of .same) (values ws′) (values ws)
+      after-move = (settled-sound, held-same)

@@ -1,13 +1,9 @@
 -- Checks 9 and 10 of the three stores: what checks 1 to 5 say of each store, and the first check that applies.
 -- Assumes nothing.
-use mathlib.Core.Bool.{Bool, true, false, _||_}
-use mathlib.Core.List.{List}
-use mathlib.Core.Path.{_≡_, refl, sym, _∙_}
-use Prim.Native.Nat.{ℕ}
-use native.Mathlib.Omega.{arith}
+use mathlib.Core.Bool.{true, false, _||_}
+use mathlib.Core.Path.{_≡_}
 use Rattle.lists.specs.Choice.{firstOf}
-use Rattle.lists.proofs.Choice.{or-left, or-right, or-none, or-neither-left, or-neither-right, first-none, refuse-none}
-use Rattle.lists.proofs.Choice.{answer-here, answer-next, answer-last, refuse-met, refuse-passed}
+use Rattle.lists.proofs.Choice.{or-neither-left, or-neither-right, first-none, refuse-none}
 use Rattle.plan.specs.declared.Partitioning.{Partitioning}
 use Rattle.checks.specs.Stores.{Stores, storeNumber}
 use Rattle.checks.proofs.Checks.{ready}

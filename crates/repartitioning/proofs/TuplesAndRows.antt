@@ -1,10 +1,10 @@
 -- A tuple store and the rows store, from plan p to plan q with other cuts: whether they fit, that they can be moved,
 -- and what the move leaves; by the laws of Moving, for each of the two kinds of records.
 -- Assumes nothing.
-use mathlib.Core.Bool.{Bool, true, false}
+use mathlib.Core.Bool.{false}
 use mathlib.Core.List.{List}
 use mathlib.Core.Path.{_≡_, refl, sym, ap, _∙_}
-use Prim.Native.Nat.{ℕ, _*_, _≤_, _<_}
+use Prim.Native.Nat.{ℕ}
 use native.Mathlib.Omega.{arith}
 use lib.Dec.{ltb}
 use lib.ListN.{length}
@@ -16,9 +16,8 @@ use Rattle.interval.specs.declared.tuple.Tuple.{Tuple}
 use Rattle.interval.specs.declared.tuple.Row.{Row}
 use Rattle.plan.specs.Plan.{cutsOf}
 use Rattle.plan.specs.declared.Partitioning.{Partitioning}
-use Rattle.part.specs.Part.{roomOf, soundPart}
 use Rattle.part.proofs.Parts.{tuples, rows}
-use Rattle.store.specs.Store.{tupleRoom, rowRoom, partitionAt, tupleAtHome, rowAtHome, soundTuplePart, soundRowPart}
+use Rattle.store.specs.Store.{tupleRoom, rowRoom, tupleAtHome, rowAtHome, soundTuplePart, soundRowPart}
 use Rattle.store.specs.Store.{storedTuples, storedRows, tuplesAt, rowsAt}
 use Rattle.store.proofs.StoreLoops.{tuples-given, rows-given}
 use Rattle.store.proofs.Stores.{sound-tuples-at, sound-rows-at, tuples-sound-by, rows-sound-by}
@@ -28,7 +27,7 @@ use Rattle.rehoming.specs.Rehoming.{Movable, Rehomed}
 use Rattle.move_count.specs.Crowding.{overfull, Homed}
 use Rattle.repartitioning.specs.Moving.{tuplesOverfull, rowsOverfull, TuplesMoved, RowsMoved, Recut}
 use Rattle.repartitioning.specs.Moving.{TuplesStand, RowsStand}
-use Rattle.repartitioning.proofs.Moving.{Held, overfull-is, counts, homed, movable, settled-sound, held-same}
+use Rattle.repartitioning.proofs.Moving.{Held, Standing, overfull-is, counts, homed, movable, after-move}
 
 -- ---- tuples
 
@@ -48,69 +47,46 @@ module _ (p q : Partitioning) (ws : List ℕ) (recut : Recut p q) (stand : Tuple
   unfolding storedTuples
   tuples-stored = rw (recut .count, recut .tuples)
 
-  pub tuples-room : tupleRoom p ≡ tupleRoom q
+  tuples-room : tupleRoom p ≡ tupleRoom q
   tuples-room = rw (recut .tuples)
 
-  tuples-long : length ws ≡ q .count * tupleRoom q
-  tuples-long = rw (recut .count, recut .tuples) (tuples-given p (length ws) (stand .fits) .1)
+  tuples-standing : Standing tuples tuples-held (q .tuples) (q .count) ws
+  unfolding soundTuplePart tupleAtHome
+  tuples-standing = record {
+    long = rw (recut .count, recut .tuples) (tuples-given p (length ws) (stand .fits) .1);
+    ok = λ i r. tupleAtHome p i (tupleOf r);
+    ok-legal = λ i r e. and-left (legalTuple (tupleOf r)) _ e;
+    sound = λ i l. rw (recut .tuples) (sound-tuples-at p ws (stand .sound) i (omega (arith, recut .count)));
+  }
 
-  -- as it stands by p
-  abbrev tuples-ok : ℕ → List ℕ → Bool
-  tuples-ok i r = tupleAtHome p i (tupleOf r)
+  -- the code's room of a partition is that of p, and so of q
+  module _ (room : ℕ) (is : room ≡ tupleRoom p) where
+    pub tuples-overfull-is : overfull tupleWidth room q (q .tuples) ws ≡ tuplesOverfull p q ws
+    unfolding tuplesOverfull tuplesAt storedTuples
+    tuples-overfull-is =
+        ap (λ (n : ℕ). overfull tupleWidth n q (q .tuples) ws) (is ∙ tuples-room)
+        ∙ sym (overfull-is tuples tuples-held q (q .tuples) (recut .new) ws)
+        ∙ ap (λ (ts : List Tuple). any (λ i. ltb (q .tuples) (length (tuplesAt q i ts))) (below (q .count)))
+        (sym tuples-stored)
 
-  tuples-ok-legal : (i : ℕ) (r : List ℕ) → tuples-ok i r ≡ true → legalTuple (tupleOf r) ≡ true
-  unfolding tupleAtHome
-  tuples-ok-legal i r e = and-left (legalTuple (tupleOf r)) _ e
+    pub tuples-counts : Counts tupleWidth room (q .count) ws
+    tuples-counts = rw (is, tuples-room) (counts tuples tuples-held q (q .tuples) (recut .new) ws tuples-standing)
 
-  tuples-stand : (i : ℕ) → i < q .count
-      → soundPart tupleWidth (q .tuples) (tuples-ok i) (partitionAt (tupleRoom q) ws i) ≡ true
-  unfolding soundTuplePart
-  tuples-stand i l =
-      rw (recut .tuples) (sound-tuples-at p ws (stand .sound) i (omega (arith, recut .count)))
+    pub tuples-homed : Homed tupleWidth (cutsOf q) (storedRecords tupleWidth room (q .count) ws)
+    tuples-homed = rw (is, tuples-room) (homed tuples tuples-held q (q .tuples) (recut .new) ws tuples-standing)
 
-  pub tuples-overfull-is : (room : ℕ) → room ≡ tupleRoom p
-      → overfull tupleWidth room q (q .tuples) ws ≡ tuplesOverfull p q ws
-  unfolding tuplesOverfull tuplesAt storedTuples
-  tuples-overfull-is room e =
-      ap (λ (n : ℕ). overfull tupleWidth n q (q .tuples) ws) (e ∙ tuples-room)
-      ∙ sym (overfull-is tuples tuples-held q (q .tuples) (recut .new) ws)
-      ∙ ap (λ (ts : List Tuple). any (λ i. ltb (q .tuples) (length (tuplesAt q i ts))) (below (q .count)))
-      (sym tuples-stored)
+    pub tuples-movable : tuplesOverfull p q ws ≡ false → Movable tupleWidth room q ws
+    tuples-movable none =
+        rw (is, tuples-room)
+        (movable tuples tuples-held q (q .tuples) (recut .new) ws tuples-standing
+        (rw (is, tuples-room) at tuples-overfull-is ∙ none))
 
-  pub tuples-counts : (room : ℕ) → room ≡ tupleRoom p → Counts tupleWidth room (q .count) ws
-  tuples-counts room e =
-      rw (e, tuples-room)
-      (counts tuples tuples-held q (q .tuples) (recut .new) ws tuples-long tuples-ok tuples-ok-legal tuples-stand)
-
-  pub tuples-homed : (room : ℕ) → room ≡ tupleRoom p
-      → Homed tupleWidth (cutsOf q) (storedRecords tupleWidth room (q .count) ws)
-  tuples-homed room e =
-      rw (e, tuples-room)
-      (homed tuples tuples-held q (q .tuples) (recut .new) ws tuples-long tuples-ok tuples-ok-legal tuples-stand)
-
-  pub tuples-movable : (room : ℕ) → room ≡ tupleRoom p → tuplesOverfull p q ws ≡ false
-      → Movable tupleWidth room q ws
-  tuples-movable room e none =
-      rw (e, tuples-room)
-      (movable tuples tuples-held q (q .tuples) (recut .new) ws tuples-long tuples-ok tuples-ok-legal tuples-stand
-      (tuples-overfull-is (tupleRoom q) (sym tuples-room) ∙ none))
-
-  pub tuples-moved : (room : ℕ) (ws′ : List ℕ) → room ≡ tupleRoom p → Rehomed tupleWidth room q ws ws′
-      → TuplesMoved p q ws ws′
-  unfolding storedTuples soundTuplePart tupleAtHome
-  tuples-moved room ws′ e moved =
-      let r : Rehomed tupleWidth (tupleRoom q) q ws ws′ = rw (e, tuples-room) at moved in
-      record {
-        long = r .long;
-        sound =
-            tuples-sound-by q ws′
-            (settled-sound tuples tuples-held q (q .tuples) (recut .new) ws tuples-long tuples-ok tuples-ok-legal
-            tuples-stand ws′ r);
-        held =
-            rw tuples-stored
-            (held-same tuples tuples-held q (q .tuples) (recut .new) ws tuples-long tuples-ok tuples-ok-legal
-            tuples-stand ws′ r);
-      }
+    pub tuples-moved : (ws′ : List ℕ) → Rehomed tupleWidth room q ws ws′ → TuplesMoved p q ws ws′
+    unfolding storedTuples soundTuplePart tupleAtHome
+    tuples-moved ws′ moved =
+        let r : Rehomed tupleWidth (tupleRoom q) q ws ws′ = rw (is, tuples-room) at moved in
+        let after = after-move tuples tuples-held q (q .tuples) (recut .new) ws tuples-standing ws′ r in
+        record { long = r .long; sound = tuples-sound-by q ws′ (after .0); held = rw tuples-stored (after .1) }
 
 -- ---- rows
 
@@ -130,66 +106,43 @@ module _ (p q : Partitioning) (ws : List ℕ) (recut : Recut p q) (stand : RowsS
   unfolding storedRows
   rows-stored = rw (recut .count, recut .rows)
 
-  pub rows-room : rowRoom p ≡ rowRoom q
+  rows-room : rowRoom p ≡ rowRoom q
   rows-room = rw (recut .rows)
 
-  rows-long : length ws ≡ q .count * rowRoom q
-  rows-long = rw (recut .count, recut .rows) (rows-given p (length ws) (stand .fits) .1)
+  rows-standing : Standing rows rows-held (q .rows) (q .count) ws
+  unfolding soundRowPart rowAtHome
+  rows-standing = record {
+    long = rw (recut .count, recut .rows) (rows-given p (length ws) (stand .fits) .1);
+    ok = λ i r. rowAtHome p i (rowOf r);
+    ok-legal = λ i r e. and-left (legalRow (rowOf r)) _ e;
+    sound = λ i l. rw (recut .rows) (sound-rows-at p ws (stand .sound) i (omega (arith, recut .count)));
+  }
 
-  -- as it stands by p
-  abbrev rows-ok : ℕ → List ℕ → Bool
-  rows-ok i r = rowAtHome p i (rowOf r)
+  -- the code's room of a partition is that of p, and so of q
+  module _ (room : ℕ) (is : room ≡ rowRoom p) where
+    pub rows-overfull-is : overfull rowWidth room q (q .rows) ws ≡ rowsOverfull p q ws
+    unfolding rowsOverfull rowsAt storedRows
+    rows-overfull-is =
+        ap (λ (n : ℕ). overfull rowWidth n q (q .rows) ws) (is ∙ rows-room)
+        ∙ sym (overfull-is rows rows-held q (q .rows) (recut .new) ws)
+        ∙ ap (λ (rs : List Row). any (λ i. ltb (q .rows) (length (rowsAt q i rs))) (below (q .count)))
+        (sym rows-stored)
 
-  rows-ok-legal : (i : ℕ) (r : List ℕ) → rows-ok i r ≡ true → legalRow (rowOf r) ≡ true
-  unfolding rowAtHome
-  rows-ok-legal i r e = and-left (legalRow (rowOf r)) _ e
+    pub rows-counts : Counts rowWidth room (q .count) ws
+    rows-counts = rw (is, rows-room) (counts rows rows-held q (q .rows) (recut .new) ws rows-standing)
 
-  rows-stand : (i : ℕ) → i < q .count
-      → soundPart rowWidth (q .rows) (rows-ok i) (partitionAt (rowRoom q) ws i) ≡ true
-  unfolding soundRowPart
-  rows-stand i l =
-      rw (recut .rows) (sound-rows-at p ws (stand .sound) i (omega (arith, recut .count)))
+    pub rows-homed : Homed rowWidth (cutsOf q) (storedRecords rowWidth room (q .count) ws)
+    rows-homed = rw (is, rows-room) (homed rows rows-held q (q .rows) (recut .new) ws rows-standing)
 
-  pub rows-overfull-is : (room : ℕ) → room ≡ rowRoom p
-      → overfull rowWidth room q (q .rows) ws ≡ rowsOverfull p q ws
-  unfolding rowsOverfull rowsAt storedRows
-  rows-overfull-is room e =
-      ap (λ (n : ℕ). overfull rowWidth n q (q .rows) ws) (e ∙ rows-room)
-      ∙ sym (overfull-is rows rows-held q (q .rows) (recut .new) ws)
-      ∙ ap (λ (rs : List Row). any (λ i. ltb (q .rows) (length (rowsAt q i rs))) (below (q .count)))
-      (sym rows-stored)
+    pub rows-movable : rowsOverfull p q ws ≡ false → Movable rowWidth room q ws
+    rows-movable none =
+        rw (is, rows-room)
+        (movable rows rows-held q (q .rows) (recut .new) ws rows-standing
+        (rw (is, rows-room) at rows-overfull-is ∙ none))
 
-  pub rows-counts : (room : ℕ) → room ≡ rowRoom p → Counts rowWidth room (q .count) ws
-  rows-counts room e =
-      rw (e, rows-room)
-      (counts rows rows-held q (q .rows) (recut .new) ws rows-long rows-ok rows-ok-legal rows-stand)
-
-  pub rows-homed : (room : ℕ) → room ≡ rowRoom p
-      → Homed rowWidth (cutsOf q) (storedRecords rowWidth room (q .count) ws)
-  rows-homed room e =
-      rw (e, rows-room)
-      (homed rows rows-held q (q .rows) (recut .new) ws rows-long rows-ok rows-ok-legal rows-stand)
-
-  pub rows-movable : (room : ℕ) → room ≡ rowRoom p → rowsOverfull p q ws ≡ false
-      → Movable rowWidth room q ws
-  rows-movable room e none =
-      rw (e, rows-room)
-      (movable rows rows-held q (q .rows) (recut .new) ws rows-long rows-ok rows-ok-legal rows-stand
-      (rows-overfull-is (rowRoom q) (sym rows-room) ∙ none))
-
-  pub rows-moved : (room : ℕ) (ws′ : List ℕ) → room ≡ rowRoom p → Rehomed rowWidth room q ws ws′
-      → RowsMoved p q ws ws′
-  unfolding storedRows soundRowPart rowAtHome
-  rows-moved room ws′ e moved =
-      let r : Rehomed rowWidth (rowRoom q) q ws ws′ = rw (e, rows-room) at moved in
-      record {
-        long = r .long;
-        sound =
-            rows-sound-by q ws′
-            (settled-sound rows rows-held q (q .rows) (recut .new) ws rows-long rows-ok rows-ok-legal
-            rows-stand ws′ r);
-        held =
-            rw rows-stored
-            (held-same rows rows-held q (q .rows) (recut .new) ws rows-long rows-ok rows-ok-legal
-            rows-stand ws′ r);
-      }
+    pub rows-moved : (ws′ : List ℕ) → Rehomed rowWidth room q ws ws′ → RowsMoved p q ws ws′
+    unfolding storedRows soundRowPart rowAtHome
+    rows-moved ws′ moved =
+        let r : Rehomed rowWidth (rowRoom q) q ws ws′ = rw (is, rows-room) at moved in
+        let after = after-move rows rows-held q (q .rows) (recut .new) ws rows-standing ws′ r in
+        record { long = r .long; sound = rows-sound-by q ws′ (after .0); held = rw rows-stored (after .1) }

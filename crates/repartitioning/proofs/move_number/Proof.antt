@@ -42,7 +42,8 @@ returns-2 : tie.Need-returns-2
 returns-2 c =
     let a = c .before .before .before .before .before .before .before in
     tuples-met (a .args .p) (a .args .q) (wall a)
-    (or-right (tuplesOverfull (a .args .p) (a .args .q) (a .args .outer .now)) _ (sym (c .before .tuples-overfull2 .ensures) ∙ c .if2 .taken))
+    (or-right (tuplesOverfull (a .args .p) (a .args .q) (a .args .outer .now)) _
+    (sym (c .before .tuples-overfull2 .ensures) ∙ c .if2 .taken))
 
 rows-overfull-requires : tie.Need-rows-overfull-requires
 rows-overfull-requires c κs =

@@ -25,7 +25,7 @@ returns c =
     let start = room .before .before in
     let a = start .args in
     rows-moved (a .p) (a .q) (a .ws .now) (start .pre .0) (start .pre .1 .0) (room .row-room .result)
-    _ (room .row-room .ensures) (c .before .before .rehome .ensures)
+    (room .row-room .ensures) _ (c .before .before .rehome .ensures)
 
 pub move-rows-spec : {M : Type 1} → statement M
 move-rows-spec = tie.close (tie.spec row-room-requires rehome-requires same-length returns)

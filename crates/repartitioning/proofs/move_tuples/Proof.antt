@@ -25,7 +25,7 @@ returns c =
     let start = room .before .before in
     let a = start .args in
     tuples-moved (a .p) (a .q) (a .ws .now) (start .pre .0) (start .pre .1 .0) (room .tuple-room .result)
-    _ (room .tuple-room .ensures) (c .before .before .rehome .ensures)
+    (room .tuple-room .ensures) _ (c .before .before .rehome .ensures)
 
 pub move-tuples-spec : {M : Type 1} → statement M
 move-tuples-spec = tie.close (tie.spec tuple-room-requires rehome-requires same-length returns)

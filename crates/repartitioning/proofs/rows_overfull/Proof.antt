@@ -2,7 +2,6 @@
 -- Assumes nothing.
 use mathlib.Core.Path.{_∙_}
 use native.Mathlib.Omega.{arith}
-use borrow.Author.Needs.{needs}
 use Rattle.repartitioning.proofs.TuplesAndRows.{rows-overfull-is, rows-counts, rows-homed}
 use Rattle.repartitioning.proofs.rows_overfull.Statement.{statement}
 use Rattle.repartitioning.proofs.rows_overfull.Tie as tie

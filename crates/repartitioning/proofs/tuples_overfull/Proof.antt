@@ -2,7 +2,6 @@
 -- Assumes nothing.
 use mathlib.Core.Path.{_∙_}
 use native.Mathlib.Omega.{arith}
-use borrow.Author.Needs.{needs}
 use Rattle.repartitioning.proofs.TuplesAndRows.{tuples-overfull-is, tuples-counts, tuples-homed}
 use Rattle.repartitioning.proofs.tuples_overfull.Statement.{statement}
 use Rattle.repartitioning.proofs.tuples_overfull.Tie as tie

@@ -1,0 +1,103 @@
+-- Closed cases that compute, from the definitions that the promises cite: checks 9 and 10 of a wall of three partitions
+-- with the last chronons 34, 40 and 99999999, two tuples and one row in each.
+-- It holds drawings that end at 31, 32, 40 and 48, a spot that ends at 48, and the rows of the last two drawings with
+-- it, which end at 40 and 48. Each case gives the first two last chronons of the new cuts.
+-- Assumes nothing.
+use mathlib.Core.Bool.{true, false}
+use mathlib.Core.List.{List, [], _∷_, _++_, map}
+use mathlib.Core.Path.{_≡_, refl}
+use Prim.Native.Nat.{ℕ, _-_}
+use lib.ListN.{replicate}
+use Rattle.lists.specs.Choice.{firstOf}
+use Rattle.plan.specs.Plan.{cutsOf, homeOf, home}
+use Rattle.plan.specs.declared.Partitioning.{Partitioning}
+use Rattle.part.specs.Part.{counted, recordsIn, tuplesIn, rowsIn}
+use Rattle.store.specs.Store.{storedTuples, storedRows, tuplesAt, rowsAt}
+use Rattle.checks.specs.Stores.{Stores, stores}
+use Rattle.repartitioning.specs.Moving.{tuplesOverfull, rowsOverfull, moveNumber}
+
+-- ---- the plan by its cuts, and the stores, a partition to a line
+
+abbrev plan : ℕ → ℕ → Partitioning
+plan first second = record {
+  count = 3;
+  lasts = map (λ (n : ℕ). record { 0 = n }) (first ∷ (second ∷ (99999999 ∷ replicate 61 7)));
+  tuples = 2;
+  rows = 1;
+}
+
+abbrev p : Partitioning
+p = plan 34 40
+
+abbrev nine : ℕ → ℕ → ℕ → ℕ → ℕ → ℕ → ℕ → ℕ → ℕ → List ℕ
+nine n a b c d e f g h = n ∷ (a ∷ (b ∷ (c ∷ (d ∷ (e ∷ (f ∷ (g ∷ (h ∷ []))))))))
+
+abbrev six : ℕ → ℕ → ℕ → ℕ → ℕ → ℕ → List ℕ
+six n a b c d e = n ∷ (a ∷ (b ∷ (c ∷ (d ∷ (e ∷ [])))))
+
+abbrev drawings : List ℕ
+drawings = nine 2 1 10 30 31 1 11 32 32 ++ (nine 1 1 12 33 40 0 0 0 0 ++ nine 1 1 13 41 48 0 0 0 0)
+
+abbrev spots : List ℕ
+spots = replicate 18 0 ++ nine 1 1 7 36 48 0 0 0 0
+
+abbrev rows : List ℕ
+rows = replicate 6 0 ++ (six 1 1 12 7 36 40 ++ six 1 1 13 7 41 48)
+
+abbrev empty : List ℕ
+empty = replicate 27 0
+
+-- ---- each store by itself
+
+-- a tuple that ends on a partition's last chronon belongs to it, one that ends a chronon later to the next
+tuples-fit : tuplesOverfull p (plan 31 47) drawings ≡ false
+unfolding tuplesOverfull tuplesAt storedTuples tuplesIn recordsIn counted home homeOf cutsOf
+tuples-fit = refl
+
+-- two fill a partition, three are too many
+tuples-at-capacity : tuplesOverfull p (plan 32 39) drawings ≡ false
+unfolding tuplesOverfull tuplesAt storedTuples tuplesIn recordsIn counted home homeOf cutsOf
+tuples-at-capacity = refl
+
+tuples-too-many : tuplesOverfull p (plan 40 41) drawings ≡ true
+unfolding tuplesOverfull tuplesAt storedTuples tuplesIn recordsIn counted home homeOf cutsOf
+tuples-too-many = refl
+
+-- one row fills a partition
+rows-fit : rowsOverfull p (plan 39 47) rows ≡ false
+unfolding rowsOverfull rowsAt storedRows rowsIn recordsIn counted home homeOf cutsOf
+rows-fit = refl
+
+rows-too-many : rowsOverfull p (plan 39 48) rows ≡ true
+unfolding rowsOverfull rowsAt storedRows rowsIn recordsIn counted home homeOf cutsOf
+rows-too-many = refl
+
+-- ---- the numbers: none, 9 by the drawings, 9 by the same tuples as spots, 10 by the rows, 9 where both apply
+
+abbrev wall : Stores
+wall = stores drawings spots rows
+
+number-none : moveNumber p (plan 31 47) wall ≡ 0
+unfolding moveNumber firstOf tuplesOverfull tuplesAt storedTuples tuplesIn rowsOverfull rowsAt storedRows rowsIn
+    recordsIn counted home homeOf cutsOf
+number-none = refl
+
+number-drawings : moveNumber p (plan 40 41) wall ≡ 9
+unfolding moveNumber firstOf tuplesOverfull tuplesAt storedTuples tuplesIn rowsOverfull rowsAt storedRows rowsIn
+    recordsIn counted home homeOf cutsOf
+number-drawings = refl
+
+number-spots : moveNumber p (plan 40 41) (stores empty drawings (replicate 18 0)) ≡ 9
+unfolding moveNumber firstOf tuplesOverfull tuplesAt storedTuples tuplesIn rowsOverfull rowsAt storedRows rowsIn
+    recordsIn counted home homeOf cutsOf
+number-spots = refl
+
+number-rows : moveNumber p (plan 39 50) wall ≡ 10
+unfolding moveNumber firstOf tuplesOverfull tuplesAt storedTuples tuplesIn rowsOverfull rowsAt storedRows rowsIn
+    recordsIn counted home homeOf cutsOf
+number-rows = refl
+
+number-both : moveNumber p (plan 31 50) wall ≡ 9
+unfolding moveNumber firstOf tuplesOverfull tuplesAt storedTuples tuplesIn rowsOverfull rowsAt storedRows rowsIn
+    recordsIn counted home homeOf cutsOf
+number-both = refl
