@@ -92,7 +92,7 @@ extern "C" {
 #define RUTHGARWY_INNER 2
 
 /*
- * The refusal numbers. A call makes its checks in the order 1 to 8, 17, 9, 11 to 14, 10, and the first that applies
+ * The refusal numbers. A call makes its checks in the order 1 to 8, 17, 9, 11, 12, 14, 10, and the first that applies
  * answers.
  */
 enum ruthgarwy_number {
@@ -107,11 +107,12 @@ enum ruthgarwy_number {
     RUTHGARWY_LABEL = 6,          /* tuple: the label number is out of range (1 to 217,180,147,158) */
     RUTHGARWY_ITEM = 7,           /* tuple: the item number is above 999,999 */
     RUTHGARWY_REVERSED = 8,       /* tuple: first after last, whether or not the last is above 99,999,999 */
-    RUTHGARWY_LANE_FULL = 9,      /* insert: the tuple's own lane is at capacity */
-    RUTHGARWY_ROWS_FULL = 10,     /* insert, sweep: a rows lane would pass its capacity */
+    RUTHGARWY_LANE_FULL = 9,      /* insert: the tuple's own lane is at capacity; recut: a tuple lane of either side would
+                                     pass it */
+    RUTHGARWY_ROWS_FULL = 10,     /* insert, sweep, recut: a rows lane would pass its capacity */
     RUTHGARWY_ABSENT = 11,        /* withdraw: no equal tuple is stored */
     RUTHGARWY_ROWS_MISSING = 12,  /* withdraw: store 3 holds fewer of a row than must go (meddled store) */
-    RUTHGARWY_NOT_EMPTY = 13,     /* recut: some count word is not 0 */
+                                  /* 13 was a recut's on a wall that is not empty; no call gives it any more */
     RUTHGARWY_CACHE_SHORT = 14,   /* sweep: a cache has fewer words than 4 times its side's need */
     RUTHGARWY_LINE_FORM = 15,     /* line: not of the form that is read; of the program `wall`, and no call's answer */
     RUTHGARWY_LINE_PLACE = 16,    /* line: a change before the plan is complete, or a lane line after; the same */

@@ -1,6 +1,7 @@
 #!/bin/bash
 # The C host of examples/host, built with the static library, hangs document 01's example as document 01 lists it, tells
-# spans entered backward from those that run past the calendar, and says before a sweep what that will take.
+# spans entered backward from those that run past the calendar, says before a sweep what that will take, and moves what
+# hangs to other lanes.
 # Works from any folder. Needs rt and a C compiler.
 set -eu
 
@@ -46,4 +47,38 @@ requirements: number 0, drawings to carry 1, spots to carry 1, pairs 5
   rows of lane 3: 1, they fit
 sweep, caches of 4 and 4 words: number 10, counts 0 0
 REQUIREMENTS
-echo "host: document 01's example hangs as listed, faulty spans are told apart, and a sweep takes what was said"
+# Recuts, by hand. Left are the drawings 30 to 31, 33 to 40 and 41 to 48 and both spots; the rows end at 31, 35, 40 and 48.
+# With the last minutes 31 and 47 a row that ends at 31 is in lane 1, one at 48 in lane 3. Drawing 12, 45 to 47, makes a
+# row that ends at 47, the second lane's last minute; drawing 13, 48 to 60, one with spot 2 at minute 48. Both look at the
+# spots from the lane of their first minute up: at spot 2, which ends at 48, and at spot 1, which ends at 35, for drawing
+# 12 alone. Then five drawings would be in one lane for four: 9. With one withdrawn, which takes its row along, all are in
+# lane 1. The order of rows in a lane is free after a recut, so lines are sorted.
+diff <(sed -n '/^recut/,$p' <<<"$said" | awk '/^  lane/ { print | "sort"; next } { close("sort"); print } END { close("sort") }') - <<'RECUTS'
+recut: number 0, counts 0 0
+  last minutes 31 47 99999999
+  lane 1: label 38, drawing 10, spot 1, minutes 30 to 31
+  lane 2: label 38, drawing 10, spot 1, minutes 33 to 35
+  lane 2: label 38, drawing 10, spot 2, minutes 36 to 40
+  lane 3: label 38, drawing 11, spot 2, minutes 41 to 48
+insert drawing: number 0, counts 1 2
+insert drawing: number 0, counts 1 1
+  lane 1: label 38, drawing 10, spot 1, minutes 30 to 31
+  lane 2: label 38, drawing 10, spot 1, minutes 33 to 35
+  lane 2: label 38, drawing 10, spot 2, minutes 36 to 40
+  lane 2: label 38, drawing 12, spot 2, minutes 45 to 47
+  lane 3: label 38, drawing 11, spot 2, minutes 41 to 48
+  lane 3: label 38, drawing 13, spot 2, minutes 48 to 48
+recut: number 2, counts 0 0
+  last minutes 31 47 99999999
+recut: number 9, counts 0 0
+  last minutes 31 47 99999999
+withdraw drawing: number 0, counts 1 1
+recut: number 0, counts 0 0
+  last minutes 99 199 99999999
+  lane 1: label 38, drawing 10, spot 1, minutes 30 to 31
+  lane 1: label 38, drawing 10, spot 1, minutes 33 to 35
+  lane 1: label 38, drawing 10, spot 2, minutes 36 to 40
+  lane 1: label 38, drawing 11, spot 2, minutes 41 to 48
+  lane 1: label 38, drawing 12, spot 2, minutes 45 to 47
+RECUTS
+echo "host: document 01's example hangs as listed, faulty spans are told apart, a sweep takes what was said, recuts move all"

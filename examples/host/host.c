@@ -1,5 +1,6 @@
 // A small host of the static library: opens a wall, inserts document 01's example, asks what a sweep will take, sweeps,
-// withdraws and recuts, and prints each call's answer (its number and its counts) and the rows where they change.
+// withdraws, recuts with the drawings on the wall when the opening hours change, and prints each call's answer (its
+// number and its counts) and the rows where they change.
 #include <inttypes.h>
 #include <stdio.h>
 
@@ -86,6 +87,7 @@ static void sweep(const uint64_t hall[RUTHGARWY_PLAN_WORDS], uint64_t *hall_rows
     told(call, number);
 }
 
+// New lanes for the wall as it hangs: refused, plan and stores are as they were.
 static void recut(const uint64_t cuts[RUTHGARWY_CUT_WORDS])
 {
     uint64_t number = ruthgarwy_repartition(SLICE(plan), cuts, RUTHGARWY_CUT_WORDS, SLICE(outer), SLICE(inner),
@@ -112,7 +114,10 @@ static void print_rows(void)
 
 int main(void)
 {
+    // the lanes of other opening hours; all drawings in the first lane; last minutes that fall
     static const uint64_t cuts[RUTHGARWY_CUT_WORDS] = {31, 47, RUTHGARWY_LAST_MINUTE};
+    static const uint64_t early[RUTHGARWY_CUT_WORDS] = {99, 199, RUTHGARWY_LAST_MINUTE};
+    static const uint64_t falling[RUTHGARWY_CUT_WORDS] = {47, 31, RUTHGARWY_LAST_MINUTE};
 
     told("open", ruthgarwy_open(SLICE(plan), SLICE(outer), SLICE(inner), SLICE(rows), SLICE(answer)));
 
@@ -143,11 +148,15 @@ int main(void)
     sweep(plan, SLICE(rows), RUTHGARWY_CACHE_WORDS(LANES, TUPLES), RUTHGARWY_CACHE_WORDS(LANES, TUPLES));
     print_rows();
 
-    recut(cuts); // refused: the wall is not empty
-    told("open", ruthgarwy_open(SLICE(plan), SLICE(outer), SLICE(inner), SLICE(rows), SLICE(answer)));
-    recut(cuts);
-    insert(RUTHGARWY_OUTER, 10, 30, 48);
-    insert(RUTHGARWY_INNER, 1, 33, 40);
+    recut(cuts); // what hangs moves to the new lanes
+    print_rows();
+    insert(RUTHGARWY_OUTER, 12, 45, 47);
+    insert(RUTHGARWY_OUTER, 13, 48, 60);
+    print_rows();
+    recut(falling); // refused: last minutes rise
+    recut(early);   // refused: five drawings in a lane for four
+    withdraw(RUTHGARWY_OUTER, 13, 48, 60);
+    recut(early);
     print_rows();
     return 0;
 }
