@@ -67,6 +67,18 @@ int ask_library(requirements *r);
 // Answers DONE if that is its number.
 int refused_library(uint64_t number, uint64_t rows, const requirements *asked);
 
+// Three stores. The C by hand, while it is open, works on those that it was lent last; it answers with those before.
+typedef struct {
+    uint64_t *outer, *inner, *made;
+} stores;
+
+stores stores_of_library(void);
+stores lend_by_hand(stores lent);
+
+// A recut to other last minutes, as many as there are lanes; answers with the call's number.
+uint64_t recut_library(const uint64_t *next);
+uint64_t recut_by_hand(const uint64_t *next);
+
 double now_ms(void);
 // each word of the library's three stores read once
 uint64_t sum_of_stores(void);

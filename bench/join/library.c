@@ -82,6 +82,14 @@ int refused_library(uint64_t number, uint64_t rows, const requirements *asked)
     return got == number ? DONE : WRONG;
 }
 
+stores stores_of_library(void) { return (stores){outer, inner, made}; }
+
+uint64_t recut_library(const uint64_t *next)
+{
+    return ruthgarwy_repartition(plan, RUTHGARWY_PLAN_WORDS, next, RUTHGARWY_CUT_WORDS, outer, tuple_words, inner,
+                                 tuple_words, made, row_words, answer, RUTHGARWY_ANSWER_WORDS);
+}
+
 static uint64_t sum_of(const uint64_t *words, size_t count)
 {
     uint64_t sum = 0;

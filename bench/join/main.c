@@ -1,6 +1,6 @@
 // Times the whole join, an insert, a withdrawal and check 5 of the static library beside its peers, on the same data in one
-// run, and what a sweep will take beside the sweep's own checks, and prints tables. Shapes after figures 11 to 13 of
-// document 002. Exits 1 if any peer's rows are not the library's.
+// run, what a sweep will take beside the sweep's own checks, and a recut beside the same by hand in C, and prints tables.
+// Shapes after figures 11 to 13 of document 002. Exits 1 if any peer's rows are not the library's.
 #include "bench.h"
 #include <inttypes.h>
 #include <stdio.h>
@@ -516,6 +516,183 @@ static void asking(void)
     }
 }
 
+// ---- recut
+
+enum { TURNS = 101, HALF_LANE = 781250 }; // half a lane in minutes, where 64 lanes are even
+
+// The lanes of three stores, each as a multiset, one after another.
+static uint64_t sum_of_lanes(const stores *w, uint64_t lanes)
+{
+    uint64_t sum = 0;
+    for (int store = 1; store <= 3; store++)
+        for (uint64_t i = 0; i < lanes; i++) {
+            const uint64_t *lane = store == 3 ? w->made + i * ROW_ROOM : (store == 1 ? w->outer : w->inner) + i * TUPLE_ROOM;
+            fingerprint f = {0, 0};
+            for (uint64_t k = 0; k < lane[0]; k++) {
+                const uint64_t *r = lane + 1 + (store == 3 ? 5 : 4) * k;
+                mix(&f, store == 3 ? (row){r[0], r[1], r[2], r[3], r[4]} : (row){r[0], r[1], 0, r[2], r[3]});
+            }
+            sum = ((sum ^ f.rows) * 1099511628211u ^ f.sum) * 1099511628211u;
+        }
+    return sum;
+}
+
+static void put(const stores *to, const stores *from, uint64_t lanes)
+{
+    memcpy(to->outer, from->outer, lanes * TUPLE_ROOM * 8);
+    memcpy(to->inner, from->inner, lanes * TUPLE_ROOM * 8);
+    memcpy(to->made, from->made, lanes * ROW_ROOM * 8);
+}
+
+static int by_size(const void *a, const void *b)
+{
+    double x = *(const double *)a, y = *(const double *)b;
+    return (x > y) - (x < y);
+}
+
+// the number that so many per cent of a call's numbers do not pass: 0 the least, 50 the median
+static double passed_by(const double *of_turns, int percent)
+{
+    double sorted[TURNS];
+    memcpy(sorted, of_turns, sizeof sorted);
+    qsort(sorted, TURNS, sizeof *sorted, by_size);
+    return sorted[percent * (TURNS - 1) / 100];
+}
+
+// A last minute in the lower or the upper half of a lane, by chance; `left` is how many each half still gets. The last
+// minute of a half is left to the rows.
+static uint64_t minute_in(size_t lane, uint64_t left[2])
+{
+    uint64_t upper = from_to(1, left[0] + left[1]) > left[0];
+    left[upper]--;
+    return (2 * lane + upper) * HALF_LANE + from_to(0, HALF_LANE - 2);
+}
+
+// So many tuples of each side and rows in each lane, in both halves alike; none in the upper half of the last lane. The
+// last minute of a lower half is that of one row.
+static shape make_halves(uint64_t tuples, uint64_t rows)
+{
+    shape s = {.lanes = MOST_LANES};
+    tuple *d = room(MOST_LANES * tuples, sizeof *d), *p = room(MOST_LANES * tuples, sizeof *p);
+    row *r = room(MOST_LANES * rows, sizeof *r);
+    even_cuts(&s);
+    seed = 1;
+    for (size_t i = 0; i < s.lanes; i++) {
+        uint64_t both = i + 1 < s.lanes, middle = (2 * i + 1) * HALF_LANE - 1;
+        uint64_t left[3][2] = {{tuples / 2, both * tuples / 2}, {tuples / 2, both * tuples / 2}, {rows / 2, both * rows / 2}};
+        while (left[0][0] + left[0][1]) {
+            uint64_t last = minute_in(i, left[0]);
+            d[s.drawing_count++] = (tuple){from_to(1, 4096), from_to(0, LAST_NUMBER), last, last};
+            last = minute_in(i, left[1]);
+            p[s.spot_count++] = (tuple){from_to(1, 4096), from_to(0, LAST_NUMBER), last, last};
+        }
+        while (left[2][0] + left[2][1]) {
+            uint64_t last = minute_in(i, left[2]);
+            if (!left[2][0] && last < middle)
+                last = middle;
+            r[s.row_count++] = (row){from_to(1, 4096), from_to(0, LAST_NUMBER), from_to(0, LAST_NUMBER), last, last};
+        }
+    }
+    s.drawings = d, s.spots = p, s.rows = r;
+    return s;
+}
+
+// Every cut is moved down by half a lane, so that the upper half of each lane has to go to the next, and then back. The
+// last lane is half as full as the others, and after the move the first one is: full lanes leave no more to be moved.
+// The library and the C by hand take turns on the same stores, which are put back before to the order in which they were
+// filled: check 5, a recut that is refused with 10 when all is counted, since the last lane would get one row too many,
+// and the two recuts. After each call the stores have to be sound under the cuts, and each lane's records the same in both.
+static void recuts(void)
+{
+    static const struct {
+        const char *name;
+        uint64_t tuples, rows; // in each lane
+        uint64_t filling;      // so many lanes' rows fill one; 0: not even all of them
+    } walls[] = {{"full", TUPLES, ROWS, 1}, {"half full", TUPLES / 2, ROWS / 2, 2}, {"8 tuples a side and 64 rows a lane", 8, 64, 0}};
+    enum { WALLS = sizeof walls / sizeof *walls, PROGRAMS = 2, CHECK = 0, REFUSED, THERE, BACK, CALLS };
+    static const peer *const programs[PROGRAMS] = {&library, &by_hand};
+    static uint64_t (*const recut[PROGRAMS])(const uint64_t *) = {recut_library, recut_by_hand};
+    static double ms[WALLS][PROGRAMS][CALLS][TURNS];
+    double median[WALLS][PROGRAMS][CALLS];
+    printf("\n### Recut at the largest plan: 64 lanes, 512 tuples and 4,096 rows a lane, every cut moved by half a lane\n\n");
+    printf("| stores | cuts | tuples and rows | moved | best ms, library | best ms, by hand in C | median ms, library | median ms, by hand in C |");
+    printf(" library / by hand, best | .. medians | .. of a turn: median, and of 80 in 100 |\n|---|---|---|---|---|---|---|---|---|---|---|\n");
+    for (size_t c = 0; c < WALLS; c++) {
+        shape s = make_halves(walls[c].tuples, walls[c].rows);
+        uint64_t next[MOST_LANES], crowded[MOST_LANES];
+        for (size_t i = 0; i < s.lanes; i++)
+            crowded[i] = next[i] = s.cuts[i] - (i + 1 < s.lanes ? HALF_LANE : 0);
+        if (walls[c].filling) {
+            uint64_t most = next[s.lanes - 1 - walls[c].filling] - 1;
+            for (size_t i = s.lanes - 1; i-- > 0 && crowded[i] > most; most--)
+                crowded[i] = most;
+        }
+        if (library.open(&s) || by_hand.open(&s))
+            wrong("not opened", "recut");
+        const stores now = stores_of_library(), own = lend_by_hand(now);
+        const stores filled = {room(s.lanes * TUPLE_ROOM, 8), room(s.lanes * TUPLE_ROOM, 8), room(s.lanes * ROW_ROOM, 8)};
+        put(&filled, &now, s.lanes);
+        uint64_t before = sum_of_lanes(&filled, s.lanes), after = 0;
+        for (int turn = -1; turn < TURNS; turn++) // the first one warms up
+            for (int p = 0; p < PROGRAMS; p++) {
+                int who = (p + turn) & 1; // now one is first, now the other
+                put(&now, &filled, s.lanes);
+                for (int call = 0; call < CALLS; call++) {
+                    if (call == REFUSED && !walls[c].filling)
+                        continue;
+                    const uint64_t *cuts = call == REFUSED ? crowded : call == THERE ? next : s.cuts;
+                    double began = processor_ms();
+                    uint64_t number = call == CHECK ? (uint64_t)programs[who]->check() : recut[who](cuts);
+                    double took = processor_ms() - began;
+                    if (number != (call == REFUSED ? 10 : 0))
+                        wrong("a call did not go as expected", programs[who]->name);
+                    if (turn >= 0)
+                        ms[c][who][call][turn] = took;
+                    uint64_t sum = sum_of_lanes(&now, s.lanes);
+                    if (call == THERE && !after)
+                        after = sum;
+                    if (sum != (call == THERE ? after : before) || programs[who]->check())
+                        wrong("its lanes are not as expected", programs[who]->name);
+                }
+            }
+        for (int call = 0; call < CALLS; call++)
+            for (int p = 0; p < PROGRAMS; p++)
+                median[c][p][call] = passed_by(ms[c][p][call], 50);
+        uint64_t moved = (s.lanes - 1) * (2 * walls[c].tuples + walls[c].rows) / 2;
+        for (int call = THERE; call <= BACK; call++) {
+            double least[PROGRAMS], ratios[TURNS];
+            for (int p = 0; p < PROGRAMS; p++)
+                least[p] = passed_by(ms[c][p][call], 0);
+            for (int turn = 0; turn < TURNS; turn++)
+                ratios[turn] = ms[c][0][call][turn] / ms[c][1][call][turn];
+            printf("| %s | %s | %zu | %" PRIu64 " |", walls[c].name, call == THERE ? "moved" : "moved back",
+                   s.drawing_count + s.spot_count + s.row_count, moved);
+            cell(least[0]), cell(least[1]), cell(median[c][0][call]), cell(median[c][1][call]);
+            printf(" %.2f | %.2f | %.2f, %.2f to %.2f |\n", least[0] / least[1], median[c][0][call] / median[c][1][call],
+                   passed_by(ratios, 50), passed_by(ratios, 10), passed_by(ratios, 90));
+        }
+        fflush(stdout);
+        lend_by_hand(own);
+        library.close(), by_hand.close();
+        free(filled.outer), free(filled.inner), free(filled.made);
+        free((void *)s.drawings), free((void *)s.spots), free((void *)s.rows);
+    }
+    printf("\n| parts of a recut, cuts moved: median ms | check 5, library | check 5, by hand in C | counting, library | counting, by hand in C |");
+    printf(" moving, library | moving, by hand in C | recut / check 5, library |\n|---|---|---|---|---|---|---|---|\n");
+    for (size_t c = 0; c < WALLS; c++) {
+        printf("| %s |", walls[c].name);
+        cell(median[c][0][CHECK]), cell(median[c][1][CHECK]);
+        for (int call = REFUSED; call <= THERE; call++)
+            for (int p = 0; p < PROGRAMS; p++)
+                if (call == REFUSED && !walls[c].filling)
+                    printf(" with moving |");
+                else
+                    cell(median[c][p][call] - median[c][p][call == THERE && !walls[c].filling ? CHECK : call - 1]);
+        printf(" %.2f |\n", median[c][0][THERE] / median[c][0][CHECK]);
+    }
+    fflush(stdout);
+}
+
 #define COUNT(a) (sizeof(a) / sizeof *(a))
 
 int main(int count, char **words)
@@ -552,5 +729,7 @@ int main(int count, char **words)
         changes();
     if (!*only || !strcmp(only, "requirements"))
         asking();
+    if (!*only || !strcmp(only, "recut"))
+        recuts();
     return 0;
 }
