@@ -27,7 +27,9 @@ removal::take_rows(side, t, words, Site { count: 1, tuples: site.tuples, rows: s
 cache::pass_down(more, 1, words, CHRONON);
 cache::started_from(words, 5, INDEX, 1, m);
 sweep_count::rows_of(p, words, words, INDEX);
-join::repartition(p, [CHRONON; 64], words, words, words);
+moves::split(more, 4, 0, 1, CHRONON);
+moves::place(more, 4, 5, INDEX, 0, 1);
+join::repartition(p, [CHRONON; 64], more, second, third);
 layout::put_lasts([CHRONON; 64], more);
 lines::Line::Lane(CHRONON);
 CALLS
@@ -62,7 +64,7 @@ add_crate() { # NAME MINUTE LANE
         while read -r call; do
             n=$((n + 1))
             echo
-            echo "pub fn call_$n(p: Partitioning, side: Side, t: Tuple, row: Row, site: Site, m: Chronon, k: u64, words: &[u64], more: &mut [u64]) {"
+            echo "pub fn call_$n(p: Partitioning, side: Side, t: Tuple, row: Row, site: Site, m: Chronon, k: u64, words: &[u64], more: &mut [u64], second: &mut [u64], third: &mut [u64]) {"
             echo "    $call" | sed "s/CHRONON/$2(k)/; s/INDEX/$3(k)/"
             echo '}'
         done <"$room/calls"
