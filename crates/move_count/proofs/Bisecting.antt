@@ -1,35 +1,13 @@
--- The partition of a chronon by bisecting the cuts: which side of a cut it lies on, and `Between`, the invariant of
--- `home_in`, with its laws.
+-- The partition of a chronon by bisecting the cuts: `Between`, the invariant of `home_in`, with its laws.
 -- Assumes nothing.
 use mathlib.Core.Bool.{true}
 use mathlib.Core.List.{List}
-use mathlib.Core.Logic.{⊎-elim}
 use mathlib.Core.Path.{_≡_}
 use Prim.Native.Nat.{ℕ, _+_, _-_, _≤_, _<_}
 use native.Mathlib.Omega.{arith}
 use lib.ListN.{length, getD}
 use Rattle.plan.specs.Plan.{cover, homeOf}
-use Rattle.plan.proofs.Homes.{le-or-lt, cover-order, is-home, start-after}
-
-module _ (cs : List ℕ) (h : cover cs ≡ true) (m : ℕ) (l : homeOf cs m < length cs) where
-  -- a chronon past a cut lies in a later partition
-  home-above : (i : ℕ) → i < length cs → getD cs i 0 < m → i + 1 ≤ homeOf cs m
-  home-above i b g =
-      ⊎-elim (λ e. absurd (omega (arith, is-home cs m l .1, cover-order cs h (homeOf cs m) i e b))) (λ e. omega arith)
-      (le-or-lt (homeOf cs m) i)
-
-  -- one that is not lies in that partition, or in an earlier one
-  home-by : (i : ℕ) → m ≤ getD cs i 0 → homeOf cs m ≤ i
-  home-by i g = ⊎-elim (λ e. e) (λ e. absurd (later e)) (le-or-lt (homeOf cs m) i)
-    where
-      later : i < homeOf cs m → ⊥
-      later e =
-          omega (
-            arith,
-            is-home cs m l .0,
-            start-after cs (homeOf cs m) (omega arith),
-            cover-order cs h i (homeOf cs m - 1) (omega arith) (omega arith),
-          )
+use Rattle.plan.proofs.Homes.{home-above, home-by}
 
 -- the partition is one of `low` to `high`
 pub record Between (cs : List ℕ) (m low high : ℕ) : Type 0 where
@@ -47,7 +25,7 @@ module _ (cs : List ℕ) (m : ℕ) where
   between-above low high i b g s = record {
     covered = s .covered;
     within = s .within;
-    from = home-above cs (s .covered) m (omega (arith, s .within, s .upto)) i (omega (arith, s .within)) g;
+    from = omega (arith, home-above cs (s .covered) i m (omega (arith, s .within)) g);
     upto = s .upto;
   }
 
@@ -56,7 +34,7 @@ module _ (cs : List ℕ) (m : ℕ) where
     covered = s .covered;
     within = omega (arith, s .within);
     from = s .from;
-    upto = home-by cs (s .covered) m (omega (arith, s .within, s .upto)) i g;
+    upto = home-by cs (s .covered) i m (omega (arith, s .within)) g;
   }
 
   -- one partition is left

@@ -4,11 +4,10 @@
 -- `count_store`, with its laws.
 -- Assumes nothing.
 use mathlib.Core.Bool.{true, false}
-use mathlib.Core.List.{List, [], _++_, append-nil}
+use mathlib.Core.List.{List, [], _++_}
 use mathlib.Core.Logic.{⊎-elim}
 use mathlib.Core.Path.{_≡_, refl, sym, _∙_, ap}
 use Prim.Native.Nat.{ℕ, zero, suc, _+_, _-_, _*_, _^_, _≤_, _<_}
-use native.Mathlib.Nat.{zero-add}
 use native.Mathlib.Numerals.{add-one}
 use native.Mathlib.Omega.{arith}
 use lib.Dec.{eqb}
@@ -16,18 +15,20 @@ use lib.ListN.{length, getD, drop, set, length-set, length-append}
 use lib.Seq.{getD-set-same, getD-set-other}
 use borrow.Author.Tests.{ltb-true, eqb-true, eqb-false}
 use Rattle.lists.specs.Choice.{pick}
-use Rattle.lists.specs.Members.{gather, upFrom, below}
+use Rattle.lists.specs.Members.{gather, below}
 use Rattle.lists.proofs.Choice.{bool-cases}
 use Rattle.lists.proofs.Members.{all-getD}
 use Rattle.lists.proofs.Tally.{tally-le, tally-append, tally-end, tally-next}
-use Rattle.lists.proofs.Gather.{gather-append, all-gather}
-use Rattle.lists.proofs.Below.{up-split, all-below}
-use Rattle.lists.proofs.Parts.{start-next, start-le, start-within, getD-part, length-part}
+use Rattle.lists.proofs.Gather.{all-gather}
+use Rattle.lists.proofs.Below.{all-below}
+use Rattle.lists.proofs.Parts.{start-next, start-le, start-within, length-part}
 use Rattle.plan.specs.Plan.{homeOf}
-use Rattle.part.specs.Part.{roomOf, counted, recordsIn}
-use Rattle.part.proofs.Parts.{room-next, length-records-in, record-in, record-part}
+use Rattle.part.specs.Part.{counted, recordsIn}
+use Rattle.part.proofs.Parts.{length-records-in, record-in, record-part}
 use Rattle.store.specs.Store.{partitionAt}
 use Rattle.moves.specs.Moves.{lastOf, storedRecords, Counts}
+use Rattle.moves.proofs.Runs.{last-word}
+use Rattle.moves.proofs.Compacting.{stored-next}
 use Rattle.move_count.specs.Crowding.{heldAt, Homed, PartCountable, PartTallied, Countable, Tallied}
 
 -- ---- how many of a list of records are at home in partition i
@@ -57,18 +58,15 @@ module _ (w : ℕ) (cuts : List ℕ) where
 -- ---- a record's last word
 
 -- that of record k is the word before record k + 1
-last-word : (w k : ℕ) (part : List ℕ) → 1 ≤ w → k < counted part
+last-in : (w k : ℕ) (part : List ℕ) → 1 ≤ w → k < counted part
     → lastOf w (getD (recordsIn w part) k []) ≡ getD part (w * (k + 1)) 0
-last-word w k part h l =
-    let at : roomOf w k + (w - 1) ≡ w * (k + 1) = omega (arith, room-next w k) in
-    rw (record-in w k part [] l, record-part w k part)
-    (getD-part (roomOf w k) w (w - 1) part 0 (omega arith) ∙ ap (λ (n : ℕ). getD part n 0) at)
+last-in w k part h l = rw (record-in w k part [] l, record-part w k part) (last-word w k part h)
 
 -- record k has a home
 pub home-of : (w k : ℕ) (part cuts : List ℕ) → 1 ≤ w → k < counted part → Homed w cuts (recordsIn w part)
     → homeOf cuts (getD part (w * (k + 1)) 0) < length cuts
 home-of w k part cuts h l homes =
-    rw (← last-word w k part h l)
+    rw (← last-in w k part h l)
     (ltb-true _ _ (all-getD _ (recordsIn w part) [] homes k (omega (arith, length-records-in w part))))
 
 -- ---- `count_part`: the first k records are counted, and the others are still to be counted
@@ -99,7 +97,7 @@ module _ (w : ℕ) (part cuts counts : List ℕ) where
       adds i = ⊎-elim at other (bool-cases (eqb (homeOf cuts (lastOf w next)) i))
         where
           same : home ≡ homeOf cuts (lastOf w next)
-          same = is ∙ ap (homeOf cuts) (sym (last-word w k part (c .wide) l))
+          same = is ∙ ap (homeOf cuts) (sym (last-in w k part (c .wide) l))
 
           at : eqb (homeOf cuts (lastOf w next)) i ≡ true
               → getD (set now home (getD now home 0 + 1)) i 0 ≡ getD now i 0 + here w cuts next i
@@ -157,16 +155,6 @@ module _ (w room : ℕ) (ws : List ℕ) where
   unfolding storedRecords
   stored-none = refl
 
-  stored-next : (j : ℕ)
-      → storedRecords w room (j + 1) ws ≡ storedRecords w room j ws ++ recordsIn w (partitionAt room ws j)
-  unfolding storedRecords
-  stored-next j =
-      ap (gather records) (up-split 0 j 1) ∙ gather-append records (below j) (upFrom (0 + j) 1)
-      ∙ rw (zero-add, append-nil)
-    where
-      records : ℕ → List (List ℕ)
-      records i = recordsIn w (partitionAt room ws i)
-
   -- those of n partitions have a home each: those of each partition do
   stored-homed : (n : ℕ) (cuts : List ℕ) → Homed w cuts (storedRecords w room n ws) → (j : ℕ) → j < n
       → Homed w cuts (recordsIn w (partitionAt room ws j))
@@ -185,7 +173,7 @@ module _ (w room : ℕ) (ws : List ℕ) where
     stored-most wide zero l = omega (arith, ap length stored-none)
     stored-most wide (suc j) l =
         let part : List ℕ = partitionAt room ws j in
-        rw (← add-one j, stored-next j, length-append)
+        rw (← add-one j, stored-next w room j ws, length-append)
         (omega (
           arith,
           stored-most wide j (omega arith),
@@ -244,7 +232,7 @@ module _ (w room : ℕ) (ws cuts : List ℕ) where
     summing-more counts′ t = record {
       upto = omega arith;
       long = t .long ∙ s .long;
-      each = λ i b. rw (stored-next w room ws j)
+      each = λ i b. rw (stored-next w room j ws)
           (omega (
             arith,
             t .each i b,

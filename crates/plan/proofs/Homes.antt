@@ -1,6 +1,6 @@
 -- Laws of plans: cuts that cover the calendar, the partition of a chronon, legal plans.
--- In order: covering cuts; the partition of a chronon, and when it is partition i; the order of partitions; an interval
--- that a partition does not touch; where a partition starts; the cuts of a plan; a legal plan; the check that answers.
+-- In order: covering cuts; the partition of a chronon, and when it is partition i; where a partition starts; the order
+-- of partitions; an interval that a partition does not touch; the cuts of a plan; a legal plan; the check that answers.
 -- Assumes nothing.
 use mathlib.Core.Bool.{Bool, true, false, not, _&&_, _||_, false≢true}
 use mathlib.Core.List.{List, [], _∷_}
@@ -160,6 +160,17 @@ home-test cs h i m b = same-test (eqb (homeOf cs m) i) (leb (startOf cs i) m && 
         (leb-true (startOf cs i) m (and-left (leb (startOf cs i) m) (leb m (getD cs i 0)) e))
         (leb-true m (getD cs i 0) (and-right (leb (startOf cs i) m) (leb m (getD cs i 0)) e)))
 
+-- ---- where a partition starts
+
+-- the one after i starts one chronon after i ends
+pub start-next : (cs : List ℕ) (i : ℕ) → startOf cs (i + 1) ≡ getD cs i 0 + 1
+unfolding startOf
+start-next cs i = ap (startOf cs) (add-one i)
+
+-- i starts one chronon after the one before it ends
+pub start-after : (cs : List ℕ) (i : ℕ) → 0 < i → startOf cs i ≡ getD cs (i - 1) 0 + 1
+start-after cs i l = let e : i ≡ (i - 1) + 1 = omega arith in ap (startOf cs) e ∙ start-next cs (i - 1)
+
 -- ---- the order of partitions is that of chronons
 
 -- a later chronon has no earlier partition
@@ -170,6 +181,27 @@ home-rises (c ∷ cs) m n l =
     ⊎-elim (λ g. omega (arith, home-here c cs m g))
     (λ g. omega (arith, home-past c cs m g, home-past c cs n (omega arith), home-rises cs m n l))
     (le-or-lt m c)
+
+-- a chronon past a cut lies in a later partition
+pub home-above : (cs : List ℕ) → cover cs ≡ true → (i m : ℕ) → i < length cs → getD cs i 0 < m → i < homeOf cs m
+home-above cs h i m b g =
+    ⊎-elim
+    (λ e. absurd (omega (arith, is-home cs m (omega arith) .1, cover-order cs h (homeOf cs m) i e b)))
+    (λ e. e) (le-or-lt (homeOf cs m) i)
+
+-- one that is not lies in that partition, or in an earlier one
+pub home-by : (cs : List ℕ) → cover cs ≡ true → (i m : ℕ) → i < length cs → m ≤ getD cs i 0 → homeOf cs m ≤ i
+home-by cs h i m b g = ⊎-elim (λ e. e) (λ e. absurd (later e)) (le-or-lt (homeOf cs m) i)
+  where
+    later : i < homeOf cs m → ⊥
+    later e =
+        let inside = home-within cs h m (omega (arith, cut-most cs h i b)) in
+        omega (
+          arith,
+          is-home cs m inside .0,
+          start-after cs (homeOf cs m) (omega arith),
+          cover-order cs h i (homeOf cs m - 1) (omega arith) (omega arith),
+        )
 
 -- the earlier of two chronons has the earlier of their partitions
 pub home-min : (cs : List ℕ) (m n : ℕ) → homeOf cs (min m n) ≡ min (homeOf cs m) (homeOf cs n)
@@ -192,17 +224,6 @@ apart-home cs i a b l apart m lo hi is =
     (sym apart
     ∙ and-both (leb (startOf cs i) b) (leb a (getD cs i 0)) (le-leb (startOf cs i) b (omega arith))
     (le-leb a (getD cs i 0) (omega arith)))
-
--- ---- where a partition starts
-
--- the one after i starts one chronon after i ends
-pub start-next : (cs : List ℕ) (i : ℕ) → startOf cs (i + 1) ≡ getD cs i 0 + 1
-unfolding startOf
-start-next cs i = ap (startOf cs) (add-one i)
-
--- i starts one chronon after the one before it ends
-pub start-after : (cs : List ℕ) (i : ℕ) → 0 < i → startOf cs i ≡ getD cs (i - 1) 0 + 1
-start-after cs i l = let e : i ≡ (i - 1) + 1 = omega arith in ap (startOf cs) e ∙ start-next cs (i - 1)
 
 -- ---- the cuts of a plan
 
