@@ -331,27 +331,122 @@ CALLS = [
         'if number == 5 {\n        records::clear(report);\n    }\n    if number != 0 {\n        return Requirements {',
     ),
     ('requirements/lib.rt', 'pairs: 0,', 'pairs: number,'),
-    # the repartition
+    # the repartition: the plan that it returns, its numbers, and which check comes first
     ('join/lib.rt', 'plan: next,', 'plan: p,'),
+    (
+        'join/lib.rt',
+        'answer: checks::refused(check),\n            plan: p,',
+        'answer: checks::refused(check),\n            plan: plan::with_cuts(p, new),',
+    ),
+    ('join/lib.rt', 'checks::accepted(0, 0),\n        plan', 'checks::accepted(0, 1),\n        plan'),
     ('plan/lib.rt', 'let mut places = p.count;', 'let mut places = MOST_PARTITIONS;'),
     ('plan/lib.rt', 'let mut i: u64 = 0;\n    while i < places {', 'let mut i: u64 = 1;\n    while i < places {'),
     ('join/lib.rt', 'if !plan::covers(p.count, new) {', 'if false {'),
     ('join/lib.rt', '        return 2;', '        return 13;'),
-    ('checks/lib.rt', 'if !is_empty(outer, room, p.count) {', 'if false {'),
-    ('checks/lib.rt', 'if !is_empty(inner, room, p.count) {', 'if false {'),
     (
         'join/lib.rt',
-        'answer: checks::refused(number),\n            plan: p,',
-        'answer: checks::refused(number),\n            plan: plan::with_cuts(p, new),',
+        'let next = plan::with_cuts(p, new);\n    repartitioning::move_number(',
+        'if rows.iter().any(|w| *w != 0) {\n        return 13;\n    }\n'
+        '    let next = plan::with_cuts(p, new);\n    repartitioning::move_number(',
+    ),
+    ('repartitioning/lib.rt', 'if tuples_overfull(p, q, outer) {', 'if false {'),
+    ('repartitioning/lib.rt', 'if tuples_overfull(p, q, inner) {', 'if false {'),
+    ('repartitioning/lib.rt', 'if rows_overfull(p, q, rows) {', 'if false {'),
+    (
+        'repartitioning/lib.rt',
+        'if tuples_overfull(p, q, outer) {',
+        'if rows_overfull(p, q, rows) {\n        return 10;\n    }\n    if tuples_overfull(p, q, outer) {',
+    ),
+    (
+        'repartitioning/lib.rt',
+        'if tuples_overfull(p, q, inner) {',
+        'if rows_overfull(p, q, rows) {\n        return 10;\n    }\n    if tuples_overfull(p, q, inner) {',
+    ),
+    ('repartitioning/lib.rt', '        return 10;', '        return 9;'),
+    ('repartitioning/lib.rt', 'inner) {\n        return 9;', 'inner) {\n        return 10;'),
+    ('repartitioning/lib.rt', 'TUPLE_WIDTH, room, q, q.tuples)', 'TUPLE_WIDTH, room, q, q.rows)'),
+    ('repartitioning/lib.rt', 'ROW_WIDTH, room, q, q.rows)', 'ROW_WIDTH, room, q, q.tuples)'),
+    ('repartitioning/lib.rt', 'ROW_WIDTH, room, q, q.rows)', 'ROW_WIDTH, room, p, q.rows)'),
+    # what is counted for 9 and 10
+    ('move_count/lib.rt', 'if cuts[middle] < m.0 {', 'if cuts[middle] <= m.0 {'),
+    ('move_count/lib.rt', 'if capacity < counts[i] {', 'if capacity <= counts[i] {'),
+    ('move_count/lib.rt', 'if capacity < counts[i] {', 'if capacity + 1 < counts[i] {'),
+    ('move_count/lib.rt', 'let mut j: usize = 0;', 'let mut j: usize = 1;'),
+    ('move_count/lib.rt', 'while j < cuts.len() {', 'while j + 1 < cuts.len() {'),
+    ('move_count/lib.rt', 'let mut k: usize = 0;', 'let mut k: usize = 1;'),
+    ('move_count/lib.rt', 'part[width * (k + 1)]', 'part[width * (k + 1) - 1]'),
+    ('move_count/lib.rt', 'let mut i: u64 = 0;', 'let mut i: u64 = 1;'),
+    ('move_count/lib.rt', 'let mut i: usize = 0;', 'let mut i: usize = 1;'),
+    ('move_count/lib.rt', 'some_above(&counts[..n], capacity)', 'some_above(&counts[..n - 1], capacity)'),
+    # what moves, and a refusal that moves some
+    ('join/lib.rt', 'repartitioning::move_tuples(p, next, outer);', ''),
+    ('join/lib.rt', 'repartitioning::move_tuples(p, next, inner);', ''),
+    ('join/lib.rt', 'repartitioning::move_rows(p, next, rows);', ''),
+    (
+        'join/lib.rt',
+        'repartitioning::move_rows(p, next, rows);',
+        'repartitioning::move_rows(p, next, rows);\n    sweep(next, outer, inner, rows, &mut [0; 264], &mut [0; 264]);',
     ),
     (
         'join/lib.rt',
-        'if !plan::covers(p.count, new) {\n        return 2;\n    }\n'
-        '    if !checks::is_empty_wall(p, outer, inner, rows) {\n        return 13;\n    }',
-        'if !checks::is_empty_wall(p, outer, inner, rows) {\n        return 13;\n    }\n'
-        '    if !plan::covers(p.count, new) {\n        return 2;\n    }',
+        'if check != 0 {\n        return NewPlan {',
+        'if check == 10 {\n        repartitioning::move_tuples(p, plan::with_cuts(p, new), outer);\n    }\n'
+        '    if check != 0 {\n        return NewPlan {',
     ),
-    # the calls: a refusal that writes, and rows that are put in another order in lanes that are not concerned
+    (
+        'join/lib.rt',
+        'if check != 0 {\n        return NewPlan {',
+        'if check == 9 {\n        moves::compact(inner, 4, store::tuple_room(p), p.count);\n    }\n'
+        '    if check != 0 {\n        return NewPlan {',
+    ),
+    (
+        'join/lib.rt',
+        'if check != 0 {\n        return NewPlan {',
+        'if check == 2 && outer[0] > 1 {\n        records::swap(outer, 4, 0, 1);\n    }\n'
+        '    if check != 0 {\n        return NewPlan {',
+    ),
+    # the move of one store: gathered to a run, split, and laid down
+    ('moves/lib.rt', 'let mut i: u64 = 0;', 'let mut i: u64 = 1;'),
+    ('moves/lib.rt', 'move_down(ws, start + 1, 1 +', 'move_down(ws, start, 1 +'),
+    ('moves/lib.rt', 'gathered += held;', 'gathered = held;'),
+    (
+        'moves/lib.rt',
+        'ws[from + moved];\n        ws[at + moved]',
+        'ws[from + len - 1 - moved];\n        ws[at + len - 1 - moved]',
+    ),
+    (
+        'moves/lib.rt',
+        'ws[from + left];\n        ws[at + left]',
+        'ws[from + len - 1 - left];\n        ws[at + len - 1 - left]',
+    ),
+    ('moves/lib.rt', 'if ws[width * (low + 1)] < first.0 {', 'if ws[width * (low + 1)] <= first.0 {'),
+    ('moves/lib.rt', 'if ws[width * (high + 1)] < first.0 {', 'if ws[width * (high + 1)] <= first.0 {'),
+    ('moves/lib.rt', 'records::swap(ws, width, low, high);', ''),
+    ('moves/lib.rt', 'records::swap(ws, width, low, high);', 'records::swap(ws, width, lo, high);'),
+    ('moves/lib.rt', 'records::swap(ws, width, low, high);', 'records::swap(ws, width, low, hi - 1);'),
+    ('records/lib.rt', 'part[high + j] = below;', ''),
+    ('records/lib.rt', 'while j < width {\n        let below', 'while j + 1 < width {\n        let below'),
+    ('moves/lib.rt', 'records::clear(&mut ws[tail..end]);', ''),
+    ('moves/lib.rt', 'let end = at + room;', 'let end = ws.len();'),
+    ('moves/lib.rt', 'ws[at] = held as u64;', ''),
+    ('moves/lib.rt', 'ws[at] = held as u64;', 'ws[at] = hi as u64;'),
+    (
+        'moves/lib.rt',
+        'move_up(ws, 1 + width * lo, at + 1, words);\n    ws[at] = held as u64;',
+        'ws[at] = held as u64;\n    move_up(ws, 1 + width * lo, at + 1, words);',
+    ),
+    ('rehoming/lib.rt', 'Chronon(before.0 + 1)', 'Chronon(before.0)'),
+    ('rehoming/lib.rt', 'PartitionIndex(a.0 + half)', 'PartitionIndex(half)'),
+    ('rehoming/lib.rt', 'q, middle, n - half, k, hi);', 'q, middle, half, k, hi);'),
+    ('rehoming/lib.rt', 'q, a, half, lo, k);', 'q, a, half, lo, hi);'),
+    ('rehoming/lib.rt', 'q, a, half, lo, k);', 'q, a, half, 0, k);'),
+    (
+        'rehoming/lib.rt',
+        'spread(ws, width, room, q, middle, n - half, k, hi);\n    spread(ws, width, room, q, a, half, lo, k);',
+        'spread(ws, width, room, q, a, half, lo, k);\n    spread(ws, width, room, q, middle, n - half, k, hi);',
+    ),
+    ('rehoming/lib.rt', 'q.count, 0, held);', 'q.count, held.min(1), held);'),
+    # the calls: a refusal that writes, and records that are put in another order in lanes that are not concerned
     (
         'insertion/lib.rt',
         'if number != 0 {\n        return checks::refused(number);',
@@ -363,6 +458,12 @@ CALLS = [
         'let changed = addition::add_rows(side, t, other, site, rows);',
         'let changed = addition::add_rows(side, t, other, site, rows);\n'
         'if rows[0] > 1 && site.at.0 > 0 && site.low.0 > 0 {\n    for f in 1..6 {\n        rows.swap(f, f + 5);\n    }\n}',
+    ),
+    (
+        'deletion/lib.rt',
+        'store::remove(own, TUPLE_WIDTH, site.tuples.words, site.at, place);',
+        'store::remove(own, TUPLE_WIDTH, site.tuples.words, site.at, place);\n'
+        'if own[0] > 1 {\n    records::swap(own, TUPLE_WIDTH, 0, 1);\n}',
     ),
     # the calls: their counts
     ('checks/lib.rt', 'changed: 0,', 'changed: number,'),

@@ -78,14 +78,12 @@ fn kind_by(k: u64, open: u64, repartition: u64, sweep: u64, insert: u64) -> u64 
     total::either(k < open, 0, later)
 }
 
-// The kind of a call. In the first steps after an open, when a wall is often empty, many are repartitions. An open that
-// is not disturbed is rare, since it empties the wall.
+// The kind of a call. In the first steps after an open, when a wall is often empty, many are repartitions; then for a
+// while only disturbed ones, so that the order of the tuples can be told, and then many of a wall that holds some. An
+// open that is not disturbed is rare, since it empties the wall.
 fn kind_of(k: u64, disturbed: bool, age: u64) -> u64 {
-    let drawn = total::either(
-        disturbed,
-        kind_by(k, 14, 28, 52, 74),
-        kind_by(k, 2, 6, 18, 82),
-    );
+    let settled = total::either(age < 30, kind_by(k, 1, 1, 9, 98), kind_by(k, 1, 33, 41, 96));
+    let drawn = total::either(disturbed, kind_by(k, 24, 48, 64, 84), settled);
     total::either(k < total::either(age < 3, 40, 0), 4, drawn)
 }
 
@@ -150,15 +148,15 @@ fn with_cuts(c: Call, s: Stores) -> Left {
     let p = c.plan;
     let cuts = c.cuts;
     let l = c.lengths;
-    let outer = s.outer;
-    let inner = s.inner;
-    let rows = s.rows;
+    let mut outer = s.outer;
+    let mut inner = s.inner;
+    let mut rows = s.rows;
     let new = join::repartition(
         p,
         cuts,
-        total::lent(&outer, l.outer),
-        total::lent(&inner, l.inner),
-        total::lent(&rows, l.rows),
+        total::lent_mut(&mut outer, l.outer),
+        total::lent_mut(&mut inner, l.inner),
+        total::lent_mut(&mut rows, l.rows),
     );
     let plan = new.plan;
     let answer = new.answer;
@@ -166,7 +164,7 @@ fn with_cuts(c: Call, s: Stores) -> Left {
         answer,
         plan,
         more: digest::plan(plan),
-        stores: s,
+        stores: Stores { outer, inner, rows },
     }
 }
 

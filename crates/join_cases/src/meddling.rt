@@ -1,5 +1,5 @@
 // One word of one store changed before a call, as if another had written it. Which record of a lane it is goes by the
-// records' digests and not by their order, which is free for rows.
+// records' digests and not by their order, which is free for rows, and after a repartition for tuples.
 use crate::digest;
 use crate::draws;
 use crate::stores;
@@ -7,25 +7,9 @@ use crate::stores::Stores;
 use crate::total;
 use plan::Partitioning;
 
-// The place of the counted record with the smallest digest.
-fn smallest(words: &[u64], base: u64, width: u64, count: u64, salt: u64) -> u64 {
-    let mut place = total::plus(base, 1);
-    let mut best: u64 = 1_000_003;
-    let mut at = total::plus(base, 1);
-    let mut k: u64 = 0;
-    while k < count {
-        let h = digest::record(salt, words, at, width);
-        place = total::either(h < best, at, place);
-        best = total::either(h < best, h, best);
-        at = total::plus(at, width);
-        k += 1;
-    }
-    place
-}
-
 // A word of a counted record.
 fn in_record(words: &[u64], base: u64, width: u64, count: u64, d: &[u64]) -> u64 {
-    let record = smallest(words, base, width, count, draws::pick(d, 19, 32_768));
+    let record = digest::smallest(words, base, width, count, draws::pick(d, 19, 32_768));
     total::plus(record, draws::pick(d, 20, width))
 }
 

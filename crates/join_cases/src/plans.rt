@@ -26,8 +26,8 @@ fn spread(count: u64) -> u64 {
     if count < 1 { 1 } else { 84 / count }
 }
 
-// Cuts that rise; the last is the end of the calendar. What is drawn past it is ignored.
-fn cuts(state: u64, count: u64) -> [Chronon; PLACES] {
+// Cuts that rise, so far apart at most; the last is the end of the calendar. What is drawn past it is ignored.
+fn cuts(state: u64, count: u64, apart: u64) -> [Chronon; PLACES] {
     let mut lasts = [Chronon(0); PLACES];
     let mut s = state;
     let mut minute: u64 = 0;
@@ -35,7 +35,7 @@ fn cuts(state: u64, count: u64) -> [Chronon; PLACES] {
     while i < PLACES {
         s = draws::next(s);
         let w = draws::value(s);
-        minute = total::plus(minute, total::rest(w, spread(count)));
+        minute = total::plus(minute, total::rest(w, apart));
         lasts[i] = Chronon(cut_drawn(i as u64, count, minute, w));
         minute = total::plus(minute, 1);
         i += 1;
@@ -43,17 +43,21 @@ fn cuts(state: u64, count: u64) -> [Chronon; PLACES] {
     lasts
 }
 
-// A plan with 1 to 8 lanes, 1 to 8 tuples and 1 to 16 rows a lane. Once in sixteen seeds a wide one: 63 or 64 lanes, 1
-// tuple and 1 or 2 rows a lane; all its lanes but the last have one minute.
+// A plan with 1 to 8 lanes, 1 to 8 tuples and 1 to 16 rows a lane, of which few are likelier. Once in sixteen seeds a
+// wide one: 63 or 64 lanes, 1 tuple and 1 or 2 rows a lane; all its lanes but the last have one minute.
 pub(crate) fn drawn(seed: u64, d: &[u64], state: u64) -> Partitioning {
     let wide = seed % 16 == 0;
     let count = total::either(wide, draws::from(d, 0, 63, 2), draws::from(d, 0, 1, 8));
-    let lasts = cuts(state, count);
+    let lasts = cuts(state, count, spread(count));
     Partitioning {
         count,
         lasts,
         tuples: total::either(wide, 1, draws::from(d, 1, 1, 8)),
-        rows: total::either(wide, draws::from(d, 2, 1, 2), draws::from(d, 2, 1, 16)),
+        rows: total::either(
+            wide,
+            draws::from(d, 2, 1, 2),
+            draws::from(d, 2, 1, draws::from(d, 3, 2, 15)),
+        ),
     }
 }
 
@@ -132,13 +136,40 @@ fn disturbed(p: Partitioning, kind: u64, w: u64) -> Partitioning {
     }
 }
 
-// The new last minutes of a repartition, disturbed five times in sixteen.
-pub(crate) fn new_cuts(p: Partitioning, d: &[u64]) -> [Chronon; PLACES] {
+// How many lanes end before a minute: the lane that it is in, from 0.
+fn lane_of(p: Partitioning, minute: u64) -> u64 {
+    let mut lane: u64 = 0;
+    let mut i: u64 = 0;
+    while i < p.count {
+        lane = total::either(cut(p, i) < minute, total::plus(i, 1), lane);
+        i += 1;
+    }
+    lane
+}
+
+// The plan with one cut moved, that of a minute's lane or of the lane before it, so that the minute becomes the last of
+// a lane or the first of the next.
+fn near(p: Partitioning, d: &[u64], minute: u64) -> Partitioning {
+    let lane = lane_of(p, minute);
+    let own = (draws::pick(d, 29, 2) == 1) & (total::plus(lane, 1) < p.count);
+    let first = draws::pick(d, 30, 2) == 1;
+    with_cut(
+        p,
+        total::either(own, lane, total::less(lane)),
+        total::either(first, total::less(minute), minute),
+    )
+}
+
+// The new last minutes of a repartition: all drawn, or the old ones with one moved to a minute. They are disturbed
+// five times in 32.
+pub(crate) fn new_cuts(p: Partitioning, d: &[u64], minute: u64) -> [Chronon; PLACES] {
     let state = total::plus(total::times(total::word(d, 29), 65_536), total::word(d, 30));
-    let new = with_cuts(p, cuts(state, p.count));
-    let drawn = draws::from(d, 31, 3, 16);
+    let apart = draws::from(d, 33, 1, total::plus(spread(p.count), 1));
+    let new = with_cuts(p, cuts(state, p.count, apart));
+    let drawn = draws::from(d, 31, 3, 32);
     let kind = total::either(drawn < 8, drawn, DISTURBANCES);
-    let q = disturbed(new, kind, total::word(d, 32));
+    let base = either(draws::pick(d, 34, 2) < 1, near(p, d, minute), new);
+    let q = disturbed(base, kind, total::word(d, 32));
     let lasts = q.lasts;
     lasts
 }

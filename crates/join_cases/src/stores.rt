@@ -68,6 +68,15 @@ pub(crate) fn with_rows(s: Stores, rows: [u64; ROW_WORDS]) -> Stores {
     Stores { outer, inner, rows }
 }
 
+// Whether a tuple is stored, in so many lanes of so many words each.
+pub(crate) fn holds(s: Stores, count: u64, room: u64) -> bool {
+    let outer = s.outer;
+    let inner = s.inner;
+    let drawings = total::word(&outer, held(&outer, count, 0, room));
+    let spots = total::word(&inner, held(&inner, count, 0, room));
+    (0 < drawings) | (0 < spots)
+}
+
 // The words of a lane of records, with its count.
 pub(crate) fn room(width: u64, capacity: u64) -> u64 {
     total::plus(1, total::times(width, capacity))

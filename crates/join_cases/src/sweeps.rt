@@ -102,7 +102,7 @@ pub(crate) fn aside(c: Call, s: Stores) -> Left {
     Left {
         answer,
         plan,
-        more: digest::rows_store(left.more, p, 0, &rows, &rows),
+        more: digest::rows_store(left.more, p, true, &rows, &rows),
         stores: s,
     }
 }

@@ -1,4 +1,5 @@
 // Tuples: drawn ones of few labels, items and minutes, a pool of them for each list, and words out of their range.
+use crate::digest;
 use crate::draws;
 use crate::plans;
 use crate::stores;
@@ -94,15 +95,19 @@ fn either(first: bool, t: Tuple, u: Tuple) -> Tuple {
     if first { t } else { u }
 }
 
-// A tuple that is stored on the side, in the lane that begins at a place; if it has none, one of the pool.
+// A tuple that is stored on the side, in the lane that begins at a place; if it has none, one of the pool. Which it is
+// does not go by their order.
 fn stored(d: &[u64], pool: Pool, own: &[u64], base: u64) -> Tuple {
     let count = total::word(own, base);
-    let place = total::times(4, draws::pick(d, 3, count));
-    let t = read(own, total::plus(total::plus(base, 1), place));
+    let t = read(
+        own,
+        digest::smallest(own, base, 4, count, total::word(d, 3)),
+    );
     either(count < 1, pooled(pool, draws::pick(d, 3, 8)), t)
 }
 
-// A new tuple, or one of the pool, or one that is stored on the side. A delete takes mostly a stored one.
+// A new tuple, or one of the pool, or one that is stored on the side. Half of those to insert are new; a delete takes
+// mostly a stored one, and so does a repartition, whose new cuts may go by its last minute.
 fn chosen(p: Partitioning, kind: u64, d: &[u64], pool: Pool, own: &[u64]) -> Tuple {
     let choice = draws::pick(d, 2, 8);
     let lane = draws::pick(d, 23, p.count);
@@ -113,11 +118,11 @@ fn chosen(p: Partitioning, kind: u64, d: &[u64], pool: Pool, own: &[u64]) -> Tup
         stores::held(own, p.count, lane, stores::room(4, p.tuples)),
     );
     let old = either(
-        choice < total::either(kind == 2, 3, 7),
+        choice < total::either((kind == 2) | (kind == 4), 2, 7),
         pooled(pool, draws::pick(d, 3, 8)),
         t,
     );
-    either(choice == 0, drawn(p, d, 4), old)
+    either(choice < total::either(kind == 1, 4, 1), drawn(p, d, 4), old)
 }
 
 fn bad_label(label: u64, k: u64) -> u64 {

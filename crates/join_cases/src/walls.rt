@@ -4,6 +4,7 @@ use crate::calls::Call;
 use crate::calls::Left;
 use crate::calls::Lengths;
 use crate::digest;
+use crate::digest::Order;
 use crate::draws;
 use crate::foreseen;
 use crate::meddling;
@@ -28,7 +29,8 @@ pub(crate) fn none() -> Tally {
 }
 
 // What goes from step to step: the stores, the plan in force, the state of the draws, the digest, how many calls were
-// accepted, how many steps ago the wall was opened, and how often each number was answered.
+// accepted, how many steps ago the wall was opened, whether the order of its tuples can be told, and how often each
+// number was answered.
 pub(crate) struct Wall {
     pub(crate) stores: Stores,
     pub(crate) plan: Partitioning,
@@ -36,6 +38,7 @@ pub(crate) struct Wall {
     pub(crate) digest: u64,
     pub(crate) accepted: u64,
     pub(crate) age: u64,
+    pub(crate) ordered: bool,
     pub(crate) tally: Tally,
 }
 
@@ -64,7 +67,9 @@ fn is_disturbed(d: &[u64]) -> bool {
 // The call of a step, whose tuple is drawn.
 fn drawn_call(p: Partitioning, kind: u64, d: &[u64], tuple: Tuple) -> Call {
     let base = calls::base(p, kind, d);
-    let cuts = plans::new_cuts(p, d);
+    let valid = tuple.valid;
+    let last = valid.last;
+    let cuts = plans::new_cuts(p, d, last.0);
     Call {
         kind,
         base,
@@ -83,22 +88,31 @@ fn drawn_step(p: Partitioning, kind: u64, d: &[u64], pool: Pool, s: Stores) -> C
     drawn_call(p, kind, d, tuple)
 }
 
-// How many words of each lane of rows are compared with those before the call: none after an accepted sweep.
-fn compared(p: Partitioning, kind: u64, number: u64) -> u64 {
-    let room = stores::room(5, p.rows);
-    total::either(kind == 3, total::either(number == 0, 0, room), room)
+// Which order is free in what a call left: that of the tuples after an accepted repartition, that of the rows after an
+// accepted sweep too. After a repartition of a wall that holds tuples their order cannot be told until it is opened.
+fn order(p: Partitioning, ordered: bool, kind: u64, number: u64, before: Stores) -> Order {
+    let accepted = number == 0;
+    let recut = (kind == 4) & accepted;
+    let opened = (kind == 0) & accepted;
+    let swept = (kind == 3) & accepted;
+    let holds = stores::holds(before, p.count, stores::room(4, p.tuples));
+    let lost = recut & holds;
+    Order {
+        free_tuples: recut,
+        free_rows: recut | swept,
+        told: opened | (ordered & !lost),
+    }
 }
 
 // Takes in a call's answer and what it left; the stores were as they are handed over.
-fn seen(h: u64, p: Partitioning, kind: u64, left: Left, before: Stores) -> u64 {
-    let l = calls::lengths_of(p);
+fn seen(h: u64, p: Partitioning, order: Order, left: Left, before: Stores) -> u64 {
     let a = left.answer;
     let s = left.stores;
     let number = digest::mix(h, a.number);
     let changed = digest::mix(number, a.changed);
     let examined = digest::mix(changed, a.examined);
     let beside = digest::mix(examined, left.more);
-    digest::all(beside, p, l.outer, compared(p, kind, a.number), before, s)
+    digest::all(beside, p, order, before, s)
 }
 
 fn counted(tally: Tally, number: u64) -> Tally {
@@ -115,7 +129,15 @@ fn aged(age: u64, kind: u64, number: u64) -> u64 {
 }
 
 // The wall after a step. After a disturbed call every word is what it was before.
-fn after(wall: Wall, state: u64, disturbed: bool, kind: u64, left: Left, digest: u64) -> Wall {
+fn after(
+    wall: Wall,
+    state: u64,
+    disturbed: bool,
+    kind: u64,
+    left: Left,
+    order: Order,
+    digest: u64,
+) -> Wall {
     let p = wall.plan;
     let recut = left.plan;
     let before = wall.stores;
@@ -130,6 +152,7 @@ fn after(wall: Wall, state: u64, disturbed: bool, kind: u64, left: Left, digest:
         digest,
         accepted: total::plus(wall.accepted, total::either(a.number == 0, 1, 0)),
         age: total::either(disturbed, total::plus(age, 1), aged(age, kind, a.number)),
+        ordered: (disturbed & wall.ordered) | (!disturbed & order.told),
         tally: counted(tally, a.number),
     }
 }
@@ -147,6 +170,7 @@ fn asked(wall: Wall, call: Call, before: Stores, d: &[u64]) -> Wall {
         digest: told.digest,
         accepted: total::plus(wall.accepted, total::either(told.number == 0, 1, 0)),
         age: wall.age,
+        ordered: wall.ordered,
         tally: counted(tally, told.number),
     }
 }
@@ -161,13 +185,15 @@ fn taken(wall: Wall, state: u64, d: &[u64], pool: Pool) -> Wall {
     let before = meddling::of_step(p, d, s);
     let told = asked(wall, call, before, d);
     let left = calls::made(call, before);
-    let digest = seen(told.digest, p, kind, left, before);
-    after(told, state, disturbed, kind, left, digest)
+    let a = left.answer;
+    let order = order(p, wall.ordered, kind, a.number, before);
+    let digest = seen(told.digest, p, order, left, before);
+    after(told, state, disturbed, kind, left, order, digest)
 }
 
 // Draws the numbers of a step, and takes it.
 fn step(wall: Wall, pool: Pool) -> Wall {
-    let mut d = [0u64; 33];
+    let mut d = [0u64; 35];
     let state = draws::fill(wall.state, &mut d);
     taken(wall, state, &d, pool)
 }
@@ -196,6 +222,7 @@ fn opened(seed: u64, plan: Partitioning, state: u64, tally: Tally) -> Wall {
         digest: digest::mix(seed, a.number),
         accepted: 0,
         age: 0,
+        ordered: true,
         tally,
     }
 }

@@ -6,10 +6,10 @@ use Rattle.join_cases.proofs.digest.differ.Statement.{statement}
 use Rattle.join_cases.proofs.digest.differ.Tie as tie
 
 abbrev Inv-loop : tie.InvT-loop
-Inv-loop before rows base n found₀ k₀ found k = k ≤ n
+Inv-loop before words base n found₀ k₀ found k = k ≤ n
 
 abbrev μ-loop : tie.MeasureT-loop
-μ-loop before rows base n found₀ k₀ found k = n - k
+μ-loop before words base n found₀ k₀ found k = n - k
 
 loop-holds : tie.Need-loop-holds Inv-loop μ-loop
 loop-holds c = search needs

@@ -6,10 +6,10 @@ use Rattle.join_cases.proofs.digest.places.Statement.{statement}
 use Rattle.join_cases.proofs.digest.places.Tie as tie
 
 abbrev Inv-loop : tie.InvT-loop
-Inv-loop rows base capacity count all₀ at₀ k₀ all at k = k ≤ capacity
+Inv-loop words base width capacity count all₀ at₀ k₀ all at k = k ≤ capacity
 
 abbrev μ-loop : tie.MeasureT-loop
-μ-loop rows base capacity count all₀ at₀ k₀ all at k = capacity - k
+μ-loop words base width capacity count all₀ at₀ k₀ all at k = capacity - k
 
 word-requires : tie.Need-word-requires Inv-loop μ-loop
 word-requires c κs = search needs

@@ -9,10 +9,11 @@ use Rattle.join_cases.proofs.plans.cuts.Statement.{statement}
 use Rattle.join_cases.proofs.plans.cuts.Tie as tie
 
 abbrev Inv-loop : tie.InvT-loop
-Inv-loop state count lasts₀ s₀ minute₀ i₀ lasts s minute i = (length lasts ≡ mostPartitions) × (i ≤ mostPartitions)
+Inv-loop state count apart lasts₀ s₀ minute₀ i₀ lasts s minute i =
+    (length lasts ≡ mostPartitions) × (i ≤ mostPartitions)
 
 abbrev μ-loop : tie.MeasureT-loop
-μ-loop state count lasts₀ s₀ minute₀ i₀ lasts s minute i = mostPartitions - i
+μ-loop state count apart lasts₀ s₀ minute₀ i₀ lasts s minute i = mostPartitions - i
 
 loop-holds : tie.Need-loop-holds Inv-loop μ-loop
 loop-holds c = search needs
@@ -22,9 +23,6 @@ next-requires c κs = search needs
 
 value-requires : tie.Need-value-requires Inv-loop μ-loop
 value-requires c κs = search needs
-
-spread-requires : tie.Need-spread-requires Inv-loop μ-loop
-spread-requires c κs = search needs
 
 rest-requires : tie.Need-rest-requires Inv-loop μ-loop
 rest-requires c κs = search needs
@@ -65,7 +63,6 @@ cuts-spec =
     loop-holds
     next-requires
     value-requires
-    spread-requires
     rest-requires
     plus-requires
     cut-drawn-requires

@@ -1,15 +1,15 @@
--- `join_cases::digest::rows_store` is safe and ends. `i` is at most the plan's count; what is left to it falls.
+-- `join_cases::digest::store` is safe and ends. `i` is at most the number of lanes; what is left to it falls.
 -- Assumes nothing.
 use borrow.Author.Needs.{needs}
 use Prim.Native.Nat.{_≤_, _-_}
-use Rattle.join_cases.proofs.digest.rows_store.Statement.{statement}
-use Rattle.join_cases.proofs.digest.rows_store.Tie as tie
+use Rattle.join_cases.proofs.digest.store.Statement.{statement}
+use Rattle.join_cases.proofs.digest.store.Tie as tie
 
 abbrev Inv-loop : tie.InvT-loop
-Inv-loop h p compared before rows room all₀ base₀ i₀ all base i = i ≤ p .count
+Inv-loop h l before words room all₀ base₀ i₀ all base i = i ≤ l .count
 
 abbrev μ-loop : tie.MeasureT-loop
-μ-loop h p compared before rows room all₀ base₀ i₀ all base i = p .count - i
+μ-loop h l before words room all₀ base₀ i₀ all base i = l .count - i
 
 room-requires : tie.Need-room-requires Inv-loop μ-loop
 room-requires c κs = search needs
@@ -41,8 +41,8 @@ mix-requires c κs = search needs
 returns : tie.Need-returns Inv-loop μ-loop
 returns c = search needs
 
-pub rows-store-spec : {M : Type 1} → statement M
-rows-store-spec =
+pub store-spec : {M : Type 1} → statement M
+store-spec =
     tie.close
     (tie.spec
     Inv-loop

@@ -1,9 +1,9 @@
--- `join_cases::meddling::smallest` is safe and ends. `k` is at most `count`; what is left to it falls.
+-- `join_cases::digest::smallest` is safe and ends. `k` is at most `count`; what is left to it falls.
 -- Assumes nothing.
 use borrow.Author.Needs.{needs}
 use Prim.Native.Nat.{_≤_, _-_}
-use Rattle.join_cases.proofs.meddling.smallest.Statement.{statement}
-use Rattle.join_cases.proofs.meddling.smallest.Tie as tie
+use Rattle.join_cases.proofs.digest.smallest.Statement.{statement}
+use Rattle.join_cases.proofs.digest.smallest.Tie as tie
 
 abbrev Inv-loop : tie.InvT-loop
 Inv-loop words base width count salt place₀ best₀ at₀ k₀ place best at k = k ≤ count
