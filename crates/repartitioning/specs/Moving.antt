@@ -1,4 +1,4 @@
--- Stores moved to the partitions of new cuts (document 02, request (e)): checks 9 and 10, and what one store, and all
+-- Stores moved to the partitions of new cuts (document 02, (e)): checks 9 and 10, and what one store, and all
 -- three, hold after. The laws are in proofs/; the call is in crate join.
 use mathlib.Core.Bool.{Bool, true, _||_}
 use mathlib.Core.List.{List, [], _∷_}
