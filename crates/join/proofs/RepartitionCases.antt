@@ -48,50 +48,22 @@ meddled = six 1 1 12 7 36 40 ++ (replicate 6 0 ++ six 1 1 13 7 41 48)
 abbrev wall : Stores
 wall = stores drawings spots rows
 
--- accepted, with two drawings that move
-number-accepted : repartitionNumber p (cuts 31 47) wall ≡ 0
-unfolding repartitionNumber firstOf storeNumber lengthsNumber tuplesLength rowsLength tuplesUnsound rowsUnsound
-    planNumber cover cutsOf withCuts legalPlan fitsTuples fitsRows soundTuples soundRows soundTuplePart soundRowPart
-    soundPart tupleAtHome rowAtHome legalTuple legalRow tupleNumber rowNumber labelCheck itemCheck validCheck moveNumber
-    tuplesOverfull rowsOverfull tuplesAt rowsAt storedTuples storedRows tuplesIn rowsIn recordsIn counted home homeOf
-number-accepted = refl
+-- the number with new cuts whose first two last chronons are these
+abbrev with-cuts : ℕ → ℕ → Stores → ℕ
+with-cuts first second s = repartitionNumber p (cuts first second) s
 
--- 2 for new cuts that fall, before 9
-number-falling-cuts : repartitionNumber p (cuts 47 31) wall ≡ 2
-unfolding repartitionNumber firstOf storeNumber lengthsNumber tuplesLength rowsLength tuplesUnsound rowsUnsound
-    planNumber cover cutsOf withCuts legalPlan fitsTuples fitsRows soundTuples soundRows soundTuplePart soundRowPart
-    soundPart tupleAtHome rowAtHome legalTuple legalRow tupleNumber rowNumber labelCheck itemCheck validCheck moveNumber
-    tuplesOverfull rowsOverfull tuplesAt rowsAt storedTuples storedRows tuplesIn rowsIn recordsIn counted home homeOf
-number-falling-cuts = refl
+-- In order: accepted, with two drawings that move; 2 for new cuts that fall, before 9; 5 before 2 of the new cuts, for
+-- a row that stands in the wrong partition; 9 by the drawings; 10 by the rows; 9 where both apply.
+abbrev numbers : List ℕ
+numbers =
+    with-cuts 31 47 wall
+    ∷ (with-cuts 47 31 wall
+    ∷ (with-cuts 47 31 (stores drawings spots meddled)
+    ∷ (with-cuts 40 41 wall ∷ (with-cuts 39 50 wall ∷ (with-cuts 31 50 wall ∷ [])))))
 
--- 5 before 2 of the new cuts: a row that stands in the wrong partition
-number-unsound : repartitionNumber p (cuts 47 31) (stores drawings spots meddled) ≡ 5
+numbers-hold : numbers ≡ 0 ∷ (2 ∷ (5 ∷ (9 ∷ (10 ∷ (9 ∷ [])))))
 unfolding repartitionNumber firstOf storeNumber lengthsNumber tuplesLength rowsLength tuplesUnsound rowsUnsound
     planNumber cover cutsOf withCuts legalPlan fitsTuples fitsRows soundTuples soundRows soundTuplePart soundRowPart
     soundPart tupleAtHome rowAtHome legalTuple legalRow tupleNumber rowNumber labelCheck itemCheck validCheck moveNumber
     tuplesOverfull rowsOverfull tuplesAt rowsAt storedTuples storedRows tuplesIn rowsIn recordsIn counted home homeOf
-number-unsound = refl
-
--- 9 by the drawings
-number-drawings : repartitionNumber p (cuts 40 41) wall ≡ 9
-unfolding repartitionNumber firstOf storeNumber lengthsNumber tuplesLength rowsLength tuplesUnsound rowsUnsound
-    planNumber cover cutsOf withCuts legalPlan fitsTuples fitsRows soundTuples soundRows soundTuplePart soundRowPart
-    soundPart tupleAtHome rowAtHome legalTuple legalRow tupleNumber rowNumber labelCheck itemCheck validCheck moveNumber
-    tuplesOverfull rowsOverfull tuplesAt rowsAt storedTuples storedRows tuplesIn rowsIn recordsIn counted home homeOf
-number-drawings = refl
-
--- 10 by the rows
-number-rows : repartitionNumber p (cuts 39 50) wall ≡ 10
-unfolding repartitionNumber firstOf storeNumber lengthsNumber tuplesLength rowsLength tuplesUnsound rowsUnsound
-    planNumber cover cutsOf withCuts legalPlan fitsTuples fitsRows soundTuples soundRows soundTuplePart soundRowPart
-    soundPart tupleAtHome rowAtHome legalTuple legalRow tupleNumber rowNumber labelCheck itemCheck validCheck moveNumber
-    tuplesOverfull rowsOverfull tuplesAt rowsAt storedTuples storedRows tuplesIn rowsIn recordsIn counted home homeOf
-number-rows = refl
-
--- 9 where both apply
-number-both : repartitionNumber p (cuts 31 50) wall ≡ 9
-unfolding repartitionNumber firstOf storeNumber lengthsNumber tuplesLength rowsLength tuplesUnsound rowsUnsound
-    planNumber cover cutsOf withCuts legalPlan fitsTuples fitsRows soundTuples soundRows soundTuplePart soundRowPart
-    soundPart tupleAtHome rowAtHome legalTuple legalRow tupleNumber rowNumber labelCheck itemCheck validCheck moveNumber
-    tuplesOverfull rowsOverfull tuplesAt rowsAt storedTuples storedRows tuplesIn rowsIn recordsIn counted home homeOf
-number-both = refl
+numbers-hold = refl

@@ -1,5 +1,5 @@
--- Laws for the call `repartition`: what its checks say where none applies, what the moves of its stores then ask; a call
--- that is refused, and one that is done. What follows from its record is in proofs/Moves.antt.
+-- Laws for the call `repartition`: what its checks say where none applies, what the moves of its stores then ask; a
+-- call that is refused, and one that is done. What follows from its record is in proofs/Moves.antt.
 -- Assumes nothing.
 use mathlib.Core.Bool.{true, false, not}
 use mathlib.Core.List.{List}

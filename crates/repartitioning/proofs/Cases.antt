@@ -3,7 +3,7 @@
 -- It holds drawings that end at 31, 32, 40 and 48, a spot that ends at 48, and the rows of the last two drawings with
 -- it, which end at 40 and 48. Each case gives the first two last chronons of the new cuts.
 -- Assumes nothing.
-use mathlib.Core.Bool.{true, false}
+use mathlib.Core.Bool.{Bool, true, false}
 use mathlib.Core.List.{List, [], _∷_, _++_, map}
 use mathlib.Core.Path.{_≡_, refl}
 use Prim.Native.Nat.{ℕ, _-_}
@@ -47,57 +47,40 @@ rows = replicate 6 0 ++ (six 1 1 12 7 36 40 ++ six 1 1 13 7 41 48)
 abbrev empty : List ℕ
 empty = replicate 27 0
 
--- ---- each store by itself
-
--- a tuple that ends on a partition's last chronon belongs to it, one that ends a chronon later to the next
-tuples-fit : tuplesOverfull p (plan 31 47) drawings ≡ false
-unfolding tuplesOverfull tuplesAt storedTuples tuplesIn recordsIn counted home homeOf cutsOf
-tuples-fit = refl
-
--- two fill a partition, three are too many
-tuples-at-capacity : tuplesOverfull p (plan 32 39) drawings ≡ false
-unfolding tuplesOverfull tuplesAt storedTuples tuplesIn recordsIn counted home homeOf cutsOf
-tuples-at-capacity = refl
-
-tuples-too-many : tuplesOverfull p (plan 40 41) drawings ≡ true
-unfolding tuplesOverfull tuplesAt storedTuples tuplesIn recordsIn counted home homeOf cutsOf
-tuples-too-many = refl
-
--- one row fills a partition
-rows-fit : rowsOverfull p (plan 39 47) rows ≡ false
-unfolding rowsOverfull rowsAt storedRows rowsIn recordsIn counted home homeOf cutsOf
-rows-fit = refl
-
-rows-too-many : rowsOverfull p (plan 39 48) rows ≡ true
-unfolding rowsOverfull rowsAt storedRows rowsIn recordsIn counted home homeOf cutsOf
-rows-too-many = refl
-
--- ---- the numbers: none, 9 by the drawings, 9 by the same tuples as spots, 10 by the rows, 9 where both apply
-
 abbrev wall : Stores
 wall = stores drawings spots rows
 
-number-none : moveNumber p (plan 31 47) wall ≡ 0
-unfolding moveNumber firstOf tuplesOverfull tuplesAt storedTuples tuplesIn rowsOverfull rowsAt storedRows rowsIn
-    recordsIn counted home homeOf cutsOf
-number-none = refl
+-- ---- each store by itself
 
-number-drawings : moveNumber p (plan 40 41) wall ≡ 9
-unfolding moveNumber firstOf tuplesOverfull tuplesAt storedTuples tuplesIn rowsOverfull rowsAt storedRows rowsIn
-    recordsIn counted home homeOf cutsOf
-number-drawings = refl
+-- Drawings: with the cuts 31 and 47 one that ends on a partition's last chronon belongs to it, one that ends a chronon
+-- later to the next; with 32 and 39 two fill a partition; with 40 and 41 three are too many
+abbrev drawings-overfull : List Bool
+drawings-overfull =
+    tuplesOverfull p (plan 31 47) drawings
+    ∷ (tuplesOverfull p (plan 32 39) drawings ∷ (tuplesOverfull p (plan 40 41) drawings ∷ []))
 
-number-spots : moveNumber p (plan 40 41) (stores empty drawings (replicate 18 0)) ≡ 9
-unfolding moveNumber firstOf tuplesOverfull tuplesAt storedTuples tuplesIn rowsOverfull rowsAt storedRows rowsIn
-    recordsIn counted home homeOf cutsOf
-number-spots = refl
+drawings-hold : drawings-overfull ≡ false ∷ (false ∷ (true ∷ []))
+unfolding tuplesOverfull tuplesAt storedTuples tuplesIn recordsIn counted home homeOf cutsOf
+drawings-hold = refl
 
-number-rows : moveNumber p (plan 39 50) wall ≡ 10
-unfolding moveNumber firstOf tuplesOverfull tuplesAt storedTuples tuplesIn rowsOverfull rowsAt storedRows rowsIn
-    recordsIn counted home homeOf cutsOf
-number-rows = refl
+-- rows: one fills a partition, two are too many
+abbrev rows-overfull : List Bool
+rows-overfull = rowsOverfull p (plan 39 47) rows ∷ (rowsOverfull p (plan 39 48) rows ∷ [])
 
-number-both : moveNumber p (plan 31 50) wall ≡ 9
+rows-hold : rows-overfull ≡ false ∷ (true ∷ [])
+unfolding rowsOverfull rowsAt storedRows rowsIn recordsIn counted home homeOf cutsOf
+rows-hold = refl
+
+-- ---- the numbers: none; 9 by the drawings; 9 by the same tuples as spots; 10 by the rows; 9 where both apply
+
+abbrev numbers : List ℕ
+numbers =
+    moveNumber p (plan 31 47) wall
+    ∷ (moveNumber p (plan 40 41) wall
+    ∷ (moveNumber p (plan 40 41) (stores empty drawings (replicate 18 0))
+    ∷ (moveNumber p (plan 39 50) wall ∷ (moveNumber p (plan 31 50) wall ∷ []))))
+
+numbers-hold : numbers ≡ 0 ∷ (9 ∷ (9 ∷ (10 ∷ (9 ∷ []))))
 unfolding moveNumber firstOf tuplesOverfull tuplesAt storedTuples tuplesIn rowsOverfull rowsAt storedRows rowsIn
     recordsIn counted home homeOf cutsOf
-number-both = refl
+numbers-hold = refl
