@@ -14,8 +14,9 @@
  *
  * The answer's words are written by every call, refused or not, that is lent exactly as many as it answers with; an
  * answer of another length is not written, and the call is refused. A plan of another length than named here is
- * refused with 4: no other check can be made. An answer or new last minutes of another length are refused with 4 too,
- * after the plan's own checks 1 to 3 and before all others, as the stores' lengths are.
+ * refused with 4: no other check can be made. So is a plan of 67 words, as it was before it had a minimum. An answer or
+ * new last minutes of another length are refused with 4 too, after the plan's own checks 1 to 3 and 18 and before all
+ * others, as the stores' lengths are.
  */
 #ifndef RUTHGARWY_H
 #define RUTHGARWY_H
@@ -30,7 +31,9 @@ extern "C" {
 /*
  * A plan: the lane count (1 to 64), the tuple capacity of a lane (1 to 512), the row capacity of a lane (1 to
  * 4096), then 64 places for last minutes, one for each lane; those beyond the lane count are ignored. Last minutes
- * rise strictly, and the last one is RUTHGARWY_LAST_MINUTE.
+ * rise strictly, and the last one is RUTHGARWY_LAST_MINUTE. The last word, at RUTHGARWY_PLAN_MINIMUM, is the minimum:
+ * the fewest minutes that a row may last, RUTHGARWY_LEAST_MINIMUM to RUTHGARWY_MOST_MINIMUM. With 1 every overlap makes
+ * a row.
  */
 #define RUTHGARWY_PLAN_LANES 0
 #define RUTHGARWY_PLAN_TUPLES 1
@@ -40,8 +43,15 @@ extern "C" {
 /* The places for last minutes: in a plan, and the words of the new ones that a recut is handed. */
 #define RUTHGARWY_CUT_WORDS 64
 
-/* The words of a plan: 67. */
-#define RUTHGARWY_PLAN_WORDS (RUTHGARWY_PLAN_LASTS + RUTHGARWY_CUT_WORDS)
+/* The place of the minimum: 67, after all places for last minutes, used or not. Every other place is as it was. */
+#define RUTHGARWY_PLAN_MINIMUM (RUTHGARWY_PLAN_LASTS + RUTHGARWY_CUT_WORDS)
+
+/* The words of a plan: 68. */
+#define RUTHGARWY_PLAN_WORDS (RUTHGARWY_PLAN_MINIMUM + 1)
+
+/* The smallest and the largest minimum, in minutes. */
+#define RUTHGARWY_LEAST_MINIMUM 1
+#define RUTHGARWY_MOST_MINIMUM 1440
 
 /* The last minute of all; the first is 0. */
 #define RUTHGARWY_LAST_MINUTE 99999999
@@ -70,6 +80,11 @@ extern "C" {
  * minute, last minute. A record of store 3 is a row, five words: label number, drawing number, spot number, first
  * minute, last minute.
  *
+ * A drawing and a spot with the same label make a row if they have at least as many minutes in common as the plan's
+ * minimum. The row's span is all of these minutes, from the later first to the earlier last: last - first + 1 of them.
+ * A stored row with fewer minutes than the minimum is not legal (5). So after a change of a wall's minimum the rows are
+ * made anew: by a sweep, lent a store 3 of zeros.
+ *
  * A label's number starts at 0 and for each of its 1 to 8 letters becomes 26 times itself plus the letter's rank: A
  * and a have 1, Z and z have 26, so AL, Al and al are all 38. The same number is the sum of the ranks, each times the
  * weight of its place: from the last letter on 1, 26, 676, 17,576, 456,976, 11,881,376, 308,915,776, 8,031,810,176.
@@ -92,8 +107,8 @@ extern "C" {
 #define RUTHGARWY_INNER 2
 
 /*
- * The refusal numbers. A call makes its checks in the order 1 to 8, 17, 9, 11, 12, 14, 10, and the first that applies
- * answers.
+ * The refusal numbers. A call makes its checks in the order 1 to 3, 18, 4 to 8, 17, 9, 11, 12, 14, 10, and the first
+ * that applies answers.
  */
 enum ruthgarwy_number {
     RUTHGARWY_ACCEPTED = 0,       /* no check applies */
@@ -103,7 +118,8 @@ enum ruthgarwy_number {
     RUTHGARWY_CAPACITY = 3,       /* plan: a capacity is out of its range */
     RUTHGARWY_LENGTH = 4,         /* stores, report: a length isn't what the plan gives; a plan, an answer or new last
                                      minutes are not of the length above */
-    RUTHGARWY_UNSOUND = 5,        /* stores, not in open: a store is not sound */
+    RUTHGARWY_UNSOUND = 5,        /* stores, not in open: a store is not sound; also if a row has fewer minutes than the
+                                     plan's minimum */
     RUTHGARWY_LABEL = 6,          /* tuple: the label number is out of range (1 to 217,180,147,158) */
     RUTHGARWY_ITEM = 7,           /* tuple: the item number is above 999,999 */
     RUTHGARWY_REVERSED = 8,       /* tuple: first after last, whether or not the last is above 99,999,999 */
@@ -115,12 +131,14 @@ enum ruthgarwy_number {
                                   /* 13 was a recut's on a wall that is not empty; no call gives it any more */
     RUTHGARWY_CACHE_SHORT = 14,   /* sweep: a cache has fewer words than 4 times its side's need */
     RUTHGARWY_LINE_FORM = 15,     /* line: not of the form that is read; of the program `wall`, and no call's answer */
-    RUTHGARWY_LINE_PLACE = 16,    /* line: a change before the plan is complete, or a lane line after; the same */
-    RUTHGARWY_LATE = 17           /* tuple: last above 99,999,999, with first not after last; straight after 8 */
+    RUTHGARWY_LINE_PLACE = 16,    /* line: a change before the plan is complete, or a lane line or a `least` line after;
+                                     the same */
+    RUTHGARWY_LATE = 17,          /* tuple: last above 99,999,999, with first not after last; straight after 8 */
+    RUTHGARWY_MINIMUM = 18        /* plan: the minimum is not 1 to 1,440; straight after 3 (also a `least` line's) */
 };
 
 /*
- * Open: sets every word of the three stores to 0. Can be refused with 1 to 4. Counts: none.
+ * Open: sets every word of the three stores to 0. Can be refused with 1 to 3, 18 and 4. Counts: none.
  */
 uint64_t ruthgarwy_open(const uint64_t *plan, size_t plan_words,
                         uint64_t *outer, size_t outer_words,
@@ -130,8 +148,9 @@ uint64_t ruthgarwy_open(const uint64_t *plan, size_t plan_words,
 
 /*
  * Insert: appends the tuple to its lane on that side, and adds the rows it makes with the other side. Can be
- * refused with 1 to 10 and 17. Counts: rows added; tuples looked at, which is the number stored in the other side's
- * lanes from the one that contains the new tuple's first minute to the last lane.
+ * refused with 1 to 3, 18, 4 to 8, 17, 9 and 10. Counts: rows added; tuples looked at, which is the number stored in
+ * the other side's lanes from the one that contains the new tuple's first minute to the last lane, and does not depend
+ * on the minimum.
  */
 uint64_t ruthgarwy_insert(const uint64_t *plan, size_t plan_words,
                           uint64_t side, uint64_t label, uint64_t item, uint64_t first, uint64_t last,
@@ -143,7 +162,7 @@ uint64_t ruthgarwy_insert(const uint64_t *plan, size_t plan_words,
 /*
  * Withdraw: takes out one tuple of that side that is equal in all four words, and its rows, each with its
  * multiplicity. The lane's last record goes over the first equal one, and its own words become 0. Can be refused
- * with 1 to 8, 17, 11 and 12. Counts: rows removed; tuples looked at, as for insert.
+ * with 1 to 3, 18, 4 to 8, 17, 11 and 12. Counts: rows removed; tuples looked at, as for insert.
  */
 uint64_t ruthgarwy_delete(const uint64_t *plan, size_t plan_words,
                           uint64_t side, uint64_t label, uint64_t item, uint64_t first, uint64_t last,
@@ -156,8 +175,8 @@ uint64_t ruthgarwy_delete(const uint64_t *plan, size_t plan_words,
  * Sweep: writes store 3 afresh from stores 1 and 2, which it only reads, with two lent caches: outer_cache for
  * drawings, inner_cache for spots. A side's need is the largest number, over lanes i, of that side's tuples stored
  * above lane i whose first minute is at or before lane i's last; its cache has at least 4 words for each. After an
- * accepted sweep the caches' contents are free. Can be refused with 1 to 5, 10 and 14. Counts: rows written; pairs
- * compared.
+ * accepted sweep the caches' contents are free. Can be refused with 1 to 3, 18, 4, 5, 14 and 10. Counts: rows written;
+ * pairs compared, which do not depend on the minimum; nor do the needs.
  */
 uint64_t ruthgarwy_sweep(const uint64_t *plan, size_t plan_words,
                          const uint64_t *outer, size_t outer_words,
@@ -170,10 +189,10 @@ uint64_t ruthgarwy_sweep(const uint64_t *plan, size_t plan_words,
 /*
  * Recut: puts new last minutes, `cuts`, RUTHGARWY_CUT_WORDS words, into the plan's first places, as many as it has
  * lanes, and moves every tuple and every row to the lane that then contains its last minute, within the three stores
- * and with no other memory. The lane count, the capacities and the other places stay. What moves are the stored rows
- * as they stand. The order of tuples and rows within a lane after it is free. Can be refused with 1 to 5, also with 2
- * for the new last minutes, with 9 if a tuple lane of either side would pass its capacity, then with 10 for a rows
- * lane; a refusal changes no word of plan and stores. Counts: none.
+ * and with no other memory. The lane count, the capacities, the other places and the minimum stay. What moves are the
+ * stored rows as they stand. The order of tuples and rows within a lane after it is free. Can be refused with 1 to 3,
+ * 18, 4 and 5, then with 2 for the new last minutes, with 9 if a tuple lane of either side would pass its capacity,
+ * then with 10 for a rows lane; a refusal changes no word of plan and stores. Counts: none.
  */
 uint64_t ruthgarwy_repartition(uint64_t *plan, size_t plan_words,
                                const uint64_t *cuts, size_t cuts_words,
@@ -185,12 +204,12 @@ uint64_t ruthgarwy_repartition(uint64_t *plan, size_t plan_words,
 /*
  * What a sweep will take: from stores 1 and 2, which it only reads. The report has exactly one word for each lane of
  * the plan, and gets the rows that a sweep would put into that lane. The answer is four words: number, each side's
- * need in tuples, the pairs that a sweep would compare. Can be refused with 1 to 5, asked of these two stores and the
- * report. The row capacity refuses nothing here: a reported lane may pass it.
+ * need in tuples, the pairs that a sweep would compare. Can be refused with 1 to 3, 18, 4 and 5, asked of these two
+ * stores and the report. The row capacity refuses nothing here: a reported lane may pass it.
  *
- * A sweep of the same plan and stores 1 and 2 that is past its own checks 1 to 5 is refused with 14 exactly if a cache
- * has fewer words than RUTHGARWY_NEED_WORDS of its side's need, else with 10 exactly if a reported lane passes the row
- * capacity. Accepted, its counts are the sum of the reported rows, and the same pairs.
+ * A sweep of the same plan and stores 1 and 2 that is past its own checks 1 to 3, 18, 4 and 5 is refused with 14
+ * exactly if a cache has fewer words than RUTHGARWY_NEED_WORDS of its side's need, else with 10 exactly if a reported
+ * lane passes the row capacity. Accepted, its counts are the sum of the reported rows, and the same pairs.
  */
 uint64_t ruthgarwy_requirements(const uint64_t *plan, size_t plan_words,
                                 const uint64_t *outer, size_t outer_words,

@@ -1,8 +1,9 @@
 #!/bin/bash
 # The C host of examples/host, built with the static library, hangs document 01's example as document 01 lists it, tells
-# spans entered backward from those that run past the calendar, says before a sweep what that will take, and moves what
-# hangs to other lanes.
-# Works from any folder. Needs rt and a C compiler.
+# spans entered backward from those that run past the calendar, says before a sweep what that will take, also where
+# projectors fade, and moves what hangs to other lanes. Then tests/host_minimum.c: what a plan's minimum does, and when
+# it is refused, in every call.
+# Works from any folder. Needs rt and a C compiler: that which CC names, else cc.
 set -eu
 
 here=$(cd "$(dirname "${BASH_SOURCE[0]}")" && pwd -P)
@@ -33,7 +34,10 @@ SPANS
 # Drawings to carry: above lane 1 stand 33 to 40 and 41 to 48, of which the first begins by 34; above lane 2 stands 41
 # to 48, which does not begin by 40; so 1, for lane 1. Spots: above lane 1 stand 30 to 35 and 36 to 48, of which the
 # first begins by 34; above lane 2 stands 36 to 48, which begins by 40; so 1, for either. A tuple is four words. Pairs:
-# P9 says 5. Room for eight rows a lane; then, in a hall with room for one, the first two lanes do not fit: 10.
+# P9 says 5. Room for eight rows a lane; then, in a hall with room for one, the first two lanes do not fit: 10. Where a
+# row lasts at least five minutes, of the rows with 2, 1, 3, 5 and 8 minutes the last two are left, in lanes 2 and 3;
+# carried and compared is the same. The first hall's rows, which stand with 2, 1 and 3 minutes too, are not legal there:
+# 5.
 diff <(sed -n '/^requirements/,/^withdraw/{/^withdraw/!p}' <<<"$said") - <<'REQUIREMENTS'
 requirements: number 0, drawings to carry 1, spots to carry 1, pairs 5
   rows of lane 1: 2, they fit
@@ -46,6 +50,14 @@ requirements: number 0, drawings to carry 1, spots to carry 1, pairs 5
   rows of lane 2: 2, they do not fit
   rows of lane 3: 1, they fit
 sweep, caches of 4 and 4 words: number 10, counts 0 0
+requirements: number 0, drawings to carry 1, spots to carry 1, pairs 5
+  rows of lane 1: 0, they fit
+  rows of lane 2: 1, they fit
+  rows of lane 3: 1, they fit
+sweep, caches of 4 and 4 words: number 0, counts 2 5
+  lane 2: label 38, drawing 10, spot 2, minutes 36 to 40
+  lane 3: label 38, drawing 11, spot 2, minutes 41 to 48
+sweep, caches of 4 and 4 words: number 5, counts 0 0
 REQUIREMENTS
 # Recuts, by hand. Left are the drawings 30 to 31, 33 to 40 and 41 to 48 and both spots; the rows end at 31, 35, 40 and 48.
 # With the last minutes 31 and 47 a row that ends at 31 is in lane 1, one at 48 in lane 3. Drawing 12, 45 to 47, makes a
@@ -81,4 +93,11 @@ recut: number 0, counts 0 0
   lane 1: label 38, drawing 11, spot 2, minutes 41 to 48
   lane 1: label 38, drawing 12, spot 2, minutes 45 to 47
 RECUTS
+
+# The minimum, with the values that it must have in the program's text; the library is built by now.
+room=$(mktemp -d)
+trap 'rm -rf "$room"' EXIT
+${CC:-cc} -std=c11 -Wall -Wextra -O2 -I "$here/../include" -o "$room/minimum" "$here/host_minimum.c" \
+    "$here/../target/staticlib/libexports.a"
+"$room/minimum"
 echo "host: document 01's example hangs as listed, faulty spans are told apart, a sweep takes what was said, recuts move all"

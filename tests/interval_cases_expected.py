@@ -56,3 +56,24 @@ for l, i, f, t in product(labels, items, minutes, minutes):
                                (8, f <= t), (17, t in range(0, 10 ** 8))) if not legal]
     answers[min(hits, default=0)] += 1
 print(','.join(map(str, ['tuples', sum(answers.values()), 0, *answers.values()])))
+
+# request (f) of document 02: a span lasts last minus first plus one minutes, a reversed one as long as one minute
+def minimums(f, t):
+    length = max(t - f, 0) + 1
+    return [0, 1, 2, 1439, 1440, 1441, 2 ** 63 - 1, 2 ** 63, big - 1, big, *(
+        min(n, big) for n in (length - 1, length, length + 1))]
+
+def told(name, cases, holds):
+    affirmed = [0] * 13
+    for case in cases:
+        for k, minimum in enumerate(minimums(*case[-2:])):
+            affirmed[k] += max(case[-1] - case[-2], 0) + 1 >= minimum and holds(*case)
+    print(','.join(map(str, [name, 13 * len(cases), 0, *affirmed])))
+
+minutes = [0, 1, 2, 1438, 1439, 1440, 10 ** 8 - 2, 10 ** 8 - 1, 10 ** 8, 2 ** 63 - 1, 2 ** 63, big - 1, big]
+told('minutes', list(product(minutes, minutes)), lambda f, t: True)
+
+labels = [0, 1, upto[8], upto[8] + 1]
+items = [0, 999999, 1000000]
+told('rows', list(product(labels, items, items, minutes, minutes)), lambda label, drawing, spot, f, t: (
+    label in range(1, upto[8] + 1) and {drawing, spot} <= {0, 999999} and f <= t and t in range(10 ** 8)))

@@ -1,10 +1,10 @@
-# Shows that the test program join_cases and the tests of the program wall can fail. The sources of a program and of the
-# crates it uses are taken as Rust: the ghost lines and the promises go, declared types become Copy, io, os and libc
-# become a few lines over the C library. The unchanged build must pass: join_cases writes what crates/join_cases/stdout
-# says, and wall is content for tests/wall_failures.py and some sessions of tests/wall_sessions.py. Then each wrong edit
-# below is built by itself, and must not pass, stop with an error or not end. Prints 'mutants: N caught, 0 missed'; exit
-# 1 if one is missed, 2 if the test could not be made. Needs python3 and rustc, works from any folder and leaves nothing
-# behind. It says nothing of the proofs.
+# Shows that the test programs join_cases and interval_cases and the tests of the program wall can fail. The sources of
+# a program and of the crates it uses are taken as Rust: the ghost lines and the promises go, declared types become
+# Copy, check, io, os and libc become a few lines over the C library. The unchanged build must pass: the test programs
+# write what their file stdout says, and wall is content for tests/wall_failures.py and some sessions of
+# tests/wall_sessions.py. Then each wrong edit below is built by itself, and must not pass, stop with an error or not
+# end. Prints 'mutants: N caught, 0 missed'; exit 1 if one is missed, 2 if the test could not be made. Needs python3 and
+# rustc, works from any folder and leaves nothing behind. It says nothing of the proofs.
 from concurrent.futures import ThreadPoolExecutor
 from pathlib import Path
 import os
@@ -24,10 +24,136 @@ CALLS = [
     # the row rule
     ('rows/lib.rt', 'if !interval::tuple::same_label(outer, inner) {', 'if false {'),
     ('rows/lib.rt', 'outer: outer.item,', 'outer: inner.item,'),
-    ('rows/lib.rt', 'Side::Inner => join_pair(u, t),', 'Side::Inner => join_pair(t, u),'),
+    ('rows/lib.rt', 'Side::Inner => join_pair(minimum, u, t),', 'Side::Inner => join_pair(minimum, t, u),'),
     ('interval/time.rt', 'if last.0 < first.0 {', 'if last.0 <= first.0 {'),
     ('interval/time.rt', 'if a.0 < b.0 { b } else { a }', 'if a.0 < b.0 { a } else { b }'),
     ('interval/time.rt', 'if b.0 < a.0 { b } else { a }', 'a'),
+    # the minimum: how long an overlap lasts
+    ('interval/time.rt', 'minimum - 1 <= v.last.0 - v.first.0', 'minimum - 1 < v.last.0 - v.first.0'),
+    ('interval/time.rt', 'minimum - 1 <= v.last.0 - v.first.0', 'minimum - 1 <= v.last.0 - v.first.0 + 1'),
+    ('interval/time.rt', 'minimum - 1 <= v.last.0 - v.first.0', 'minimum - 1 == v.last.0 - v.first.0'),
+    ('interval/time.rt', 'minimum - 1 <= v.last.0 - v.first.0', 'true'),
+    ('interval/time.rt', 'if minimum <= 1 {', 'if minimum <= 2 {'),
+    ('interval/time.rt', 'if minimum <= 1 {', 'if minimum < 1 {'),
+    ('interval/time.rt', 'v.first.0 {\n        return false;', 'v.first.0 {\n        return true;'),
+    # its place in the row rule: on both sides, of the overlap and of no other span; the row's span stays the overlap
+    ('rows/lib.rt', 'if !interval::time::durable(minimum, valid) {', 'if false {'),
+    ('rows/lib.rt', 'time::durable(minimum, valid)', 'time::durable(minimum, outer.valid)'),
+    ('rows/lib.rt', 'time::durable(minimum, valid)', 'time::durable(minimum, inner.valid)'),
+    ('rows/lib.rt', 'Side::Outer => join_pair(minimum, t, u),', 'Side::Outer => join_pair(1, t, u),'),
+    ('rows/lib.rt', 'Side::Inner => join_pair(minimum, u, t),', 'Side::Inner => join_pair(1, u, t),'),
+    (
+        'rows/lib.rt',
+        'Pair::Makes(Row {',
+        'let half = (minimum - 1) / 2;\n    let valid = interval::time::Interval {\n'
+        '        first: interval::time::Chronon(valid.first.0 + half),\n'
+        '        last: interval::time::Chronon(valid.last.0 - half),\n    };\n    Pair::Makes(Row {',
+    ),
+    # a minimum that is not handed on: to a change, to its checks 10 and 12, to what it adds and takes out
+    ('rows/lib.rt', 'minimum: p.minimum,', 'minimum: 1,'),
+    ('rows/lib.rt', 'minimum: p.minimum,', 'minimum: p.minimum + 1,'),
+    ('rows/count.rt', 'crate::oriented(minimum, side', 'crate::oriented(1, side'),
+    ('rows/count.rt', 'crate::oriented(minimum, side', 'crate::oriented(minimum + 1, side'),
+    ('rows/count.rt', 'return matches(site.minimum, side', 'return matches(1, side'),
+    ('rows/count.rt', 'matches_from(\n        site.minimum,', 'matches_from(\n        1,'),
+    ('rows/count.rt', 'rows += matches(minimum, side', 'rows += matches(minimum + 1, side'),
+    ('addition/lib.rt', 'added += add_part(site.minimum,', 'added += add_part(1,'),
+    ('addition/lib.rt', 'added += add_part(site.minimum,', 'added += add_part(site.minimum + 1,'),
+    (
+        'removal/lib.rt',
+        'other, site, rows, PartitionIndex(i))',
+        'other, Site { minimum: 1, ..site }, rows, PartitionIndex(i))',
+    ),
+    ('removal/lib.rt', 'rows::oriented(site.minimum, side', 'rows::oriented(site.minimum + 1, side'),
+    ('removal/lib.rt', 'times_from(\n                site.minimum,', 'times_from(\n                site.minimum + 1,'),
+    ('removal/lib.rt', 'taken += take_from(site.minimum,', 'taken += take_from(1,'),
+    ('removal/lib.rt', 'taken += take_from(site.minimum,', 'taken += take_from(site.minimum + 1,'),
+    # to a sweep, its check 10, and what it is told to take
+    ('sweep/partitions.rt', 'join_partition(\n        p.minimum,', 'join_partition(\n        1,'),
+    ('sweep/partitions.rt', 'join_partition(\n        p.minimum,', 'join_partition(\n        p.minimum + 1,'),
+    ('sweep/partitions.rt', 'join_run(minimum, Side::Outer, own,', 'join_run(1, Side::Outer, own,'),
+    ('sweep/partitions.rt', 'join_run(minimum, Side::Inner, inner_cache,', 'join_run(1, Side::Inner, inner_cache,'),
+    ('sweep/partitions.rt', 'join_run(minimum, Side::Outer, outer_cache,', 'join_run(1, Side::Outer, outer_cache,'),
+    ('sweep_count/lib.rt', '        minimum,\n        Side::Outer,', '1,\n        Side::Outer,'),
+    ('sweep_count/lib.rt', '        minimum,\n        Side::Inner,', '1,\n        Side::Inner,'),
+    ('sweep_count/lib.rt', '        minimum,\n        Side::Inner,', 'p.minimum + 1,\n        Side::Inner,'),
+    ('sweep_count/lib.rt', 'rows += rows::count::matches(minimum,', 'rows += rows::count::matches(1,'),
+    ('sweep_count/lib.rt', 'if p.rows < rows_of(p,', 'if p.rows < rows_of(Partitioning { minimum: 1, ..p },'),
+    ('requirements/lib.rt', 'sweep_count::rows_of(p,', 'sweep_count::rows_of(Partitioning { minimum: 1, ..p },'),
+    # pairs compared and tuples looked at do not depend on it
+    (
+        'addition/lib.rt',
+        'store::append_row(rows, room, i, row);\n        }\n        compared += 1;',
+        'store::append_row(rows, room, i, row);\n            compared += 1;\n        }',
+    ),
+    (
+        'addition/lib.rt',
+        'compared += 1;',
+        'if let (Pair::Makes(_), Pair::Nothing) = (rows::oriented(1, side, t, part::tuple_at(part, k)), pair) {\n'
+        '        } else {\n            compared += 1;\n        }',
+    ),
+    (
+        'insertion/lib.rt',
+        'checks::accepted(changed, examined)',
+        'checks::accepted(changed, if site.minimum > 1 { changed } else { examined })',
+    ),
+    (
+        'deletion/lib.rt',
+        'checks::accepted(changed, examined)',
+        'checks::accepted(changed, if site.minimum > 1 { changed } else { examined })',
+    ),
+    # a recut keeps it
+    ('plan/lib.rt', 'minimum: p.minimum,', 'minimum: 1,'),
+    # its check: the bounds, the number, and after which checks it comes
+    ('plan/lib.rt', 'if minimum < 1 {', 'if false {'),
+    ('plan/lib.rt', 'if MOST_MINIMUM < minimum {', 'if MOST_MINIMUM <= minimum {'),
+    ('plan/lib.rt', 'if MOST_MINIMUM < minimum {', 'if MOST_MINIMUM + 1 < minimum {'),
+    ('plan/lib.rt', 'if MOST_MINIMUM < minimum {', 'if MOST_MINIMUM < minimum as u32 as u64 {'),
+    ('plan/lib.rt', 'if minimum < 1 {\n        return 18;', 'if minimum < 1 {\n        return 3;'),
+    ('plan/lib.rt', '    minimum_check(p.minimum)\n', '    0\n'),
+    (
+        'plan/lib.rt',
+        'if p.count < 1 {',
+        'if minimum_check(p.minimum) != 0 {\n        return 18;\n    }\n    if p.count < 1 {',
+    ),
+    (
+        'plan/lib.rt',
+        'if !covers(p.count, lasts) {',
+        'if minimum_check(p.minimum) != 0 {\n        return 18;\n    }\n    if !covers(p.count, lasts) {',
+    ),
+    (
+        'plan/lib.rt',
+        'if p.tuples < 1 {',
+        'if minimum_check(p.minimum) != 0 {\n        return 18;\n    }\n    if p.tuples < 1 {',
+    ),
+    (
+        'plan/lib.rt',
+        'if MOST_ROWS < p.rows {',
+        'if minimum_check(p.minimum) != 0 {\n        return 18;\n    }\n    if MOST_ROWS < p.rows {',
+    ),
+    (
+        'checks/lib.rt',
+        'let number = plan::plan_number(p);\n    if number != 0 {',
+        'let number = plan::plan_number(p);\n    if number == 18 && (!store::fits_tuples(p, outer)'
+        ' || !store::fits_tuples(p, inner) || !store::fits_rows(p, rows)) {\n        return 4;\n    }\n'
+        '    if number != 0 {',
+    ),
+    (
+        'requirements/lib.rt',
+        'let number = plan::plan_number(p);\n    if number != 0 {',
+        'let number = plan::plan_number(p);\n    if number != 0 && number != 18 {',
+    ),
+    (
+        'checks/lib.rt',
+        'let number = plan::plan_number(p);\n    if number != 0 {',
+        'let number = plan::plan_number(p);\n    if number != 0 && number != 18 {',
+    ),
+    # a stored row that is too short, and one that is just long enough
+    ('interval/tuple.rt', 'crate::time::durable(minimum, row.valid)', 'true'),
+    ('soundness/lib.rt', 'Records::Rows(p.minimum),', 'Records::Rows(1),'),
+    ('soundness/lib.rt', 'Records::Rows(p.minimum),', 'Records::Rows(p.minimum - 1),'),
+    ('soundness/lib.rt', 'Records::Rows(p.minimum),', 'Records::Rows(p.minimum + 1),'),
+    ('interval/tuple.rt', 'if row_number(row) != 0 {\n        return false;', 'if false {\n        return false;'),
     # which lanes are looked at, and which lane a row goes to
     ('addition/lib.rt', 'while j < site.count {', 'while j <= site.at.0 {'),
     ('addition/lib.rt', 'if j < site.at.0 {\n            i = j;', 'if j < site.at.0 {\n            i = site.at.0;'),
@@ -41,15 +167,15 @@ CALLS = [
     ('rows/count.rt', 'let mut i = site.low.0;', 'let mut i = site.at.0;'),
     (
         'rows/count.rt',
-        'matches_from(side, t, other, site.tuples.words, site.at, site.count)',
-        'matches_from(side, t, other, site.tuples.words, PartitionIndex(0), site.count)',
+        'site.at,\n        site.count,\n    )',
+        'PartitionIndex(0),\n        site.count,\n    )',
     ),
     (
         'addition/lib.rt',
-        'added += add_part(side, t, part, rows, site.rows.words, PartitionIndex(i));',
-        'added += add_part(side, t, part, rows, site.rows.words, PartitionIndex(i));\n'
+        'added += add_part(site.minimum, side, t, part, rows, site.rows.words, to);',
+        'added += add_part(site.minimum, side, t, part, rows, site.rows.words, to);\n'
         '        if j == site.at.0 {\n'
-        '            add_from(side, t, part, rows, site.rows.words, PartitionIndex(i));\n'
+        '            add_from(site.minimum, side, t, part, rows, site.rows.words, to);\n'
         '        }',
     ),
     ('addition/lib.rt', 'let mut added: u64 = 0;', 'let mut added: u64 = 1;'),
@@ -94,7 +220,7 @@ CALLS = [
     ('plan/lib.rt', 'if MOST_ROWS < p.rows {', 'if MOST_ROWS - 1 < p.rows {'),
     ('plan/lib.rt', 'if m.0 <= last.0 {', 'if m.0 < last.0 {'),
     ('soundness/lib.rt', 'zeros_from(part, 1 + width(kind) * n)', 'true'),
-    ('soundness/lib.rt', 'Records::Rows => ROW_WIDTH,', 'Records::Rows => TUPLE_WIDTH,'),
+    ('soundness/lib.rt', 'Records::Rows(_) => ROW_WIDTH,', 'Records::Rows(_) => TUPLE_WIDTH,'),
     ('soundness/lib.rt', 'zeros_one_by_one(words, i)', 'true'),
     ('soundness/lib.rt', 'if m.0 < first.0 {', 'if false {'),
     ('soundness/lib.rt', 'm.0 <= last.0', 'true'),
@@ -122,8 +248,15 @@ CALLS = [
     ),
     (
         'soundness/lib.rt',
-        'if number != 0 {',
-        'if number == 17 {\n        return true;\n    }\n    if number != 0 {',
+        'let legal = interval::tuple::tuple_number(t) == 0;',
+        'let number = interval::tuple::tuple_number(t);\n            if number == 17 {\n                return true;\n'
+        '            }\n            let legal = number == 0;',
+    ),
+    (
+        'soundness/lib.rt',
+        'let legal = interval::tuple::legal_row(minimum, row);',
+        'let legal = interval::tuple::legal_row(minimum, row);\n'
+        '            if interval::tuple::row_number(row) == 17 {\n                return true;\n            }',
     ),
     # the calls: what they do
     (
@@ -146,7 +279,8 @@ CALLS = [
         'insertion/lib.rt',
         'let changed = addition::add_rows(side, t, other, site, rows);',
         'let changed = (site.low.0..site.count).map(|j| {\n'
-        '    rows::count::matches(side, t, store::partition(other, site.tuples.words, plan::PartitionIndex(j)))\n'
+        '    let part = store::partition(other, site.tuples.words, plan::PartitionIndex(j));\n'
+        '    rows::count::matches(site.minimum, side, t, part)\n'
         '}).sum();',
     ),
     ('rows/lib.rt', 'let low = plan::home(p, t.valid.first);', 'let low = plan::home(p, t.valid.last);'),
@@ -159,7 +293,8 @@ CALLS = [
         'deletion/lib.rt',
         'let changed = removal::take_rows(side, t, other, site, rows);',
         'let changed = (site.low.0..site.count).map(|j| {\n'
-        '    rows::count::matches(side, t, store::partition(other, site.tuples.words, plan::PartitionIndex(j)))\n'
+        '    let part = store::partition(other, site.tuples.words, plan::PartitionIndex(j));\n'
+        '    rows::count::matches(site.minimum, side, t, part)\n'
         '}).sum();',
     ),
     (
@@ -190,13 +325,14 @@ CALLS = [
         'sweep/partitions.rt',
         'own_own + (own_cached + cached_own)',
         'let mut k: usize = 0;\n    while k < d {\n        let mut l: usize = 0;\n        while l < c {\n'
-        '            let pair = rows::oriented(Side::Outer, cache::tuple(outer_cache, l), cache::tuple(inner_cache, k));\n'
+        '            let (t, u) = (cache::tuple(outer_cache, l), cache::tuple(inner_cache, k));\n'
+        '            let pair = rows::oriented(minimum, Side::Outer, t, u);\n'
         '            if let rows::Pair::Makes(row) = pair {\n'
         '                store::append_row(rows, room, i, row);\n            }\n'
         '            l += 1;\n        }\n        k += 1;\n    }\n    own_own + (own_cached + cached_own)',
     ),
-    ('sweep/partitions.rt', 'join_run(Side::Inner, inner_cache, d, outer, rows, room, i)', '0'),
-    ('sweep/partitions.rt', 'join_run(Side::Outer, outer_cache, c, inner, rows, room, i)', '0'),
+    ('sweep/partitions.rt', 'join_run(minimum, Side::Inner, inner_cache, d, outer, rows, room, i)', '0'),
+    ('sweep/partitions.rt', 'join_run(minimum, Side::Outer, outer_cache, c, inner, rows, room, i)', '0'),
     ('sweep/partitions.rt', 'own_own + (own_cached + cached_own)', 'own_own + (own_own + (own_cached + cached_own))'),
     ('sweep/partitions.rt', 'own_own + (own_cached + cached_own)', 'own_own + own_cached'),
     ('sweep/partitions.rt', 'records::clear(rows);', ''),
@@ -283,8 +419,8 @@ CALLS = [
     ('sweep_count/lib.rt', 'with_inner + with_outer', 'with_inner'),
     (
         'sweep_count/lib.rt',
-        'matches_from(Side::Outer, outer, room, i, p.count, last, own_inner)',
-        'matches_from(Side::Outer, outer, room, i, above, last, own_inner)',
+        'i,\n        p.count,\n        last,\n        own_inner,',
+        'i,\n        above,\n        last,\n        own_inner,',
     ),
     # its numbers, which check comes first, and a refusal that writes
     ('requirements/lib.rt', 'if words as u64 == p.count {', 'if p.count <= words as u64 {'),
@@ -471,7 +607,8 @@ CALLS = [
         'insertion/lib.rt',
         'let changed = addition::add_rows(side, t, other, site, rows);',
         'let changed = (site.at.0..site.count).map(|j| {\n'
-        '    rows::count::matches(side, t, store::partition(other, site.tuples.words, plan::PartitionIndex(j)))\n'
+        '    let part = store::partition(other, site.tuples.words, plan::PartitionIndex(j));\n'
+        '    rows::count::matches(site.minimum, side, t, part)\n'
         '}).sum();\n'
         'addition::add_rows(side, t, other, site, rows);',
     ),
@@ -532,6 +669,31 @@ CALLS = [
     ),
 ]
 
+# words at the ends of their range, which no call takes so far
+EDGES = [
+    ('interval/time.rt', 'minimum - 1 <= v.last.0 - v.first.0', 'minimum <= v.last.0 - v.first.0 + 1'),
+    ('interval/time.rt', 'minimum - 1 <= v.last.0 - v.first.0', 'v.first.0 + (minimum - 1) <= v.last.0'),
+    (
+        'interval/time.rt',
+        'minimum - 1 <= v.last.0 - v.first.0',
+        'minimum <= (v.last.0 - v.first.0).wrapping_add(1)',
+    ),
+    ('interval/time.rt', 'minimum - 1 <= v.last.0 - v.first.0', 'minimum - 1 < v.last.0 - v.first.0'),
+    ('interval/time.rt', 'minimum - 1 <= v.last.0 - v.first.0', 'minimum as i64 - 1 <= (v.last.0 - v.first.0) as i64'),
+    ('interval/time.rt', 'v.first.0 {\n        return false;', 'v.first.0 {\n        return true;'),
+    ('interval/time.rt', 'if v.last.0 <= v.first.0 {\n        return false;', 'if false {\n        return false;'),
+    ('interval/time.rt', 'if minimum <= 1 {', 'if minimum == 1 {'),
+    ('interval/time.rt', '        return true;', '        return v.first.0 <= v.last.0;'),
+    ('interval/time.rt', 'if minimum <= 1 {', 'if minimum <= 1 || 1_440 < minimum {'),
+    ('interval/tuple.rt', 'if row_number(row) != 0 {\n        return false;', 'if false {\n        return false;'),
+    ('interval/tuple.rt', 'crate::time::durable(minimum, row.valid)', 'true'),
+    (
+        'interval/tuple.rt',
+        'if row_number(row) != 0 {\n        return false;',
+        'if row_number(row) != 0 && row_number(row) != 17 {\n        return false;',
+    ),
+]
+
 # the program wall: what it reads and writes, which no promise can say, and some of what it prints
 WALL = [
     # the weights of a label's letters
@@ -577,6 +739,40 @@ WALL = [
     ('wall/channel.rt', 'tell(b"wall: read: error ", error);', ''),
     ('wall/channel.rt', 'tell(b"wall: write: error ", error);', 'tell(b"wall: read: error ", error);'),
     ('wall/channel.rt', 'write_all(STDERR_FILENO, &line[..n]);', 'write_all(STDOUT_FILENO, &line[..n]);'),
+    # what a `least` line does, and when
+    ('lines/lib.rt', 'Line::Least(minutes)', 'Line::Least(minutes + 1)'),
+    ('session/lib.rt', 'session: session_plan::with_minimum(s, minimum),', 'session: s,'),
+    ('session_plan/lib.rt', 'const FIRST_MINIMUM: u64 = 1;', 'const FIRST_MINIMUM: u64 = 2;'),
+    ('session_plan/lib.rt', 'rows: ROWS,\n        minimum: s.minimum,', 'rows: ROWS,\n        minimum: FIRST_MINIMUM,'),
+    (
+        'session_plan/lib.rt',
+        'minimum: kept,\n        complete: m.0 == CALENDAR_END,',
+        'minimum: FIRST_MINIMUM,\n        complete: m.0 == CALENDAR_END,',
+    ),
+    (
+        'session_plan/lib.rt',
+        'minimum,\n        complete: s.complete,',
+        'minimum: if s.minimum == FIRST_MINIMUM { minimum } else { s.minimum },\n        complete: s.complete,',
+    ),
+    (
+        'session_plan/lib.rt',
+        'minimum,\n        complete: s.complete,',
+        'minimum: if s.lanes == 0 { minimum } else { s.minimum },\n        complete: s.complete,',
+    ),
+    (
+        'session_plan/lib.rt',
+        'if complete {\n        return OUT_OF_TURN;\n    }\n    plan::minimum_check(minimum)',
+        'plan::minimum_check(minimum)',
+    ),
+    (
+        'session_plan/lib.rt',
+        'if complete {\n        return OUT_OF_TURN;\n    }\n    plan::minimum_check(minimum)',
+        'let number = plan::minimum_check(minimum);\n    if number != 0 {\n        return number;\n    }\n'
+        '    if complete {\n        return OUT_OF_TURN;\n    }\n    0',
+    ),
+    ('plan/lib.rt', 'if minimum < 1 {', 'if false {'),
+    ('plan/lib.rt', 'if MOST_MINIMUM < minimum {', 'if MOST_MINIMUM + 1 < minimum {'),
+    ('plan/lib.rt', 'if MOST_MINIMUM < minimum {', 'if MOST_MINIMUM <= minimum {'),
     # what a line's word does
     ('session/lib.rt', 'Word::SpotOut => Kind::Delete,', 'Word::SpotOut => Kind::Insert,'),
     ('session/lib.rt', 'Word::DrawOut => Side::Outer,', 'Word::DrawOut => Side::Inner,'),
@@ -614,6 +810,11 @@ pub mod libc {
 pub mod os {
     pub fn errno() -> i32 {
         std::io::Error::last_os_error().raw_os_error().unwrap_or(0)
+    }
+}
+pub mod check {
+    pub fn same(a: &[u8], b: &[u8]) -> bool {
+        a == b
     }
 }
 pub mod io {
@@ -670,7 +871,7 @@ def sources(program, edit=None):
                     fail(f'{at} has {text.count(edit[1])} times: {edit[1]}')
                 text = text.replace(edit[1], edit[2])
             name = 'mod' if path.stem in ('lib', 'main') else path.stem
-            files[f'{crate}/{name}.rs'] = as_rust(text, crate, names + ['io', 'os', 'libc'])
+            files[f'{crate}/{name}.rs'] = as_rust(text, crate, names + ['check', 'io', 'os', 'libc'])
     mods = ''.join(f'pub mod {crate};\n' for crate in names)
     start = f'#[no_mangle]\npub extern "C" fn main() -> i32 {{\n    {program}::main();\n    0\n}}\n'
     files['main.rs'] = f'#![allow(warnings)]\n#![no_main]\n{mods}{STAND_INS}\n{start}'
@@ -689,10 +890,10 @@ def build(folder, program, edit=None):
         fail(f'rustc refuses {edit or "the unchanged sources"}:\n{built.stdout}')
     return folder / 'program'
 
-# Whether join_cases writes what it should; not where it stops with an error or does not end. What it writes is compared
-# as it comes: at the first byte that differs it is stopped.
-def writes(program):
-    wanted = (ROOT / 'crates' / 'join_cases' / 'stdout').read_bytes()
+# Whether a test program writes what it should; not where it stops with an error or does not end. What it writes is
+# compared as it comes: at the first byte that differs it is stopped.
+def writes(program, name='join_cases'):
+    wanted = (ROOT / 'crates' / name / 'stdout').read_bytes()
     with subprocess.Popen([program], stdout=subprocess.PIPE, stderr=subprocess.DEVNULL) as ran:
         late = threading.Timer(STOPS_AFTER, ran.kill)
         late.start()
@@ -703,6 +904,9 @@ def writes(program):
         if written != wanted:
             ran.kill()
     return ran.returncode == 0 and written == wanted
+
+def writes_edges(program):
+    return writes(program, 'interval_cases')
 
 # Whether the tests of wall are content. A test that notices nothing runs to its end, so the one that is likelier to
 # notice an edit comes first: failures where wall reads and writes, sessions where what it prints is made.
@@ -727,10 +931,11 @@ def main():
     if not shutil.which('rustc'):
         fail('there is no rustc')
     tried = [('join_cases', writes, edit) for edit in CALLS]
+    tried += [('interval_cases', writes_edges, edit) for edit in EDGES]
     tried += [('wall', contents if edit[0].startswith('wall/') else prints, edit) for edit in WALL]
     with tempfile.TemporaryDirectory() as room:
         room = Path(room)
-        for program, passes in (('join_cases', writes), ('wall', contents)):
+        for program, passes in (('join_cases', writes), ('interval_cases', writes_edges), ('wall', contents)):
             if not passes(build(room / program, program)):
                 fail(f'the unchanged sources of {program} do not pass')
         with ThreadPoolExecutor(os.cpu_count()) as pool:

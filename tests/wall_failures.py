@@ -71,11 +71,12 @@ ssize_t write(int fd, const void *bytes, size_t n) {
 }
 """
 
-PLAN = b"lane,5\nno line\nlane,3\nlane,99999999\n"
+PLAN = b"lane,5\nno line\nlane,3\nleast,3\nleast,0\nlane,99999999\nleast,1\n"
 CHANGES = b"drawin,A,1,1,9\ndrawin,A,1,9,1\n\nspotin,A,2,3,7\nspotout,A,7,3,7\ndrawin,A,1000000,1,1\n"
-# refusals and two rows; refusals, overlong lines and the longest report; no refusal
-SHORT = PLAN + CHANGES + b"lane,7\nunfinished"
-LONG = b"drawin,A,1,1,1\n" + wall_sessions.longest() + b"x" * 9_000 + b"\n" + CHANGES * 40 + b"unfinished"
+# refusals, one row and a pair too short to make one; refusals, overlong lines and the longest report, whose rows have
+# just as many minutes as they must; no refusal
+SHORT = PLAN + CHANGES + b"spotin,A,3,8,9\nlane,7\nunfinished"
+LONG = b"drawin,A,1,1,1\nleast,51\n" + wall_sessions.longest() + b"x" * 9_000 + b"\n" + CHANGES * 40 + b"unfinished"
 PLAIN = wall_sessions.longest()
 
 

@@ -91,7 +91,8 @@ int legal_tuple(const tuple *t);
 // the lane of a minute, counted from 0, by the lanes' last minutes
 size_t lane_of(const uint64_t *cuts, uint64_t minute);
 
-// the overlap of two tuples that agree on the label, if there is one
+// The overlap of two tuples that agree on the label, if there is one: document 01's rule. The peers know no minimum of
+// minutes; the library's is 1, which is the same.
 static inline int pair_row(const tuple *d, const tuple *s, row *r)
 {
     if (d->label != s->label)

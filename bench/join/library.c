@@ -11,6 +11,7 @@ static size_t tuple_words, row_words;
 static int open_library(const shape *s)
 {
     plan[0] = s->lanes, plan[1] = TUPLES, plan[2] = ROWS;
+    plan[RUTHGARWY_PLAN_MINIMUM] = 1; // every overlap makes a row, as for the peers
     for (size_t i = 0; i < MOST_LANES; i++)
         plan[3 + i] = i < s->lanes ? s->cuts[i] : 0;
     tuple_words = s->lanes * TUPLE_ROOM, row_words = s->lanes * ROW_ROOM;

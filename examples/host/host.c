@@ -1,6 +1,6 @@
 // A small host of the static library: opens a wall, inserts document 01's example, asks what a sweep will take, sweeps,
-// withdraws, recuts with the drawings on the wall when the opening hours change, and prints each call's answer (its
-// number and its counts) and the rows where they change.
+// also for a hall whose projectors fade, withdraws, recuts with the drawings on the wall when the opening hours change,
+// and prints each call's answer (its number and its counts) and the rows where they change.
 #include <inttypes.h>
 #include <stdio.h>
 
@@ -9,7 +9,9 @@
 enum { LANES = 3, TUPLES = 4, ROWS = 8 };
 enum { AL = 38 }; // the label AL: 26 * 1 + 12
 
-static uint64_t plan[RUTHGARWY_PLAN_WORDS] = {LANES, TUPLES, ROWS, 34, 40, RUTHGARWY_LAST_MINUTE};
+// every overlap makes a row: the minimum is 1
+static uint64_t plan[RUTHGARWY_PLAN_WORDS] = {LANES, TUPLES, ROWS, 34, 40, RUTHGARWY_LAST_MINUTE,
+                                              [RUTHGARWY_PLAN_MINIMUM] = 1};
 static uint64_t outer[RUTHGARWY_TUPLE_STORE_WORDS(LANES, TUPLES)];
 static uint64_t inner[RUTHGARWY_TUPLE_STORE_WORDS(LANES, TUPLES)];
 static uint64_t rows[RUTHGARWY_ROW_STORE_WORDS(LANES, ROWS)];
@@ -22,8 +24,14 @@ static uint64_t report[LANES];
 static uint64_t required[RUTHGARWY_REQUIREMENTS_WORDS];
 
 // a hall with the same lanes and room for one row in each
-static const uint64_t small_plan[RUTHGARWY_PLAN_WORDS] = {LANES, TUPLES, 1, 34, 40, RUTHGARWY_LAST_MINUTE};
+static const uint64_t small_plan[RUTHGARWY_PLAN_WORDS] = {LANES, TUPLES, 1, 34, 40, RUTHGARWY_LAST_MINUTE,
+                                                          [RUTHGARWY_PLAN_MINIMUM] = 1};
 static uint64_t small_rows[RUTHGARWY_ROW_STORE_WORDS(LANES, 1)];
+
+// a hall with the same lanes whose projectors fade: less than five minutes would be a flicker
+static const uint64_t fading_plan[RUTHGARWY_PLAN_WORDS] = {LANES, TUPLES, ROWS, 34, 40, RUTHGARWY_LAST_MINUTE,
+                                                           [RUTHGARWY_PLAN_MINIMUM] = 5};
+static uint64_t fading_rows[RUTHGARWY_ROW_STORE_WORDS(LANES, ROWS)];
 
 // an array as a slice: its address and its length in words
 #define SLICE(words) (words), sizeof(words) / sizeof((words)[0])
@@ -99,10 +107,10 @@ static void recut(const uint64_t cuts[RUTHGARWY_CUT_WORDS])
     printf("\n");
 }
 
-static void print_rows(void)
+static void print_rows(const uint64_t *hall_rows)
 {
     for (size_t lane = 0; lane < LANES; lane++) {
-        const uint64_t *part = rows + lane * RUTHGARWY_ROW_STORE_WORDS(1, ROWS);
+        const uint64_t *part = hall_rows + lane * RUTHGARWY_ROW_STORE_WORDS(1, ROWS);
         for (uint64_t k = 0; k < part[0]; k++) {
             const uint64_t *row = part + 1 + k * RUTHGARWY_ROW_WORDS;
             printf("  lane %zu: label %" PRIu64, lane + 1, row[0]);
@@ -130,7 +138,7 @@ int main(void)
     insert(RUTHGARWY_INNER, 3, 50, 49);                        // refused: entered backward
     insert(RUTHGARWY_INNER, 3, 50, RUTHGARWY_LAST_MINUTE + 1); // refused: past the calendar
     insert(RUTHGARWY_INNER, 3, RUTHGARWY_LAST_MINUTE + 2, RUTHGARWY_LAST_MINUTE + 1); // refused: both, told as backward
-    print_rows();
+    print_rows(rows);
 
     ask(plan);
     size_t outer_words = RUTHGARWY_NEED_WORDS(required[RUTHGARWY_REQUIREMENTS_OUTER]);
@@ -139,24 +147,28 @@ int main(void)
     sweep(plan, SLICE(rows), outer_words, inner_words - 1); // refused: a cache is a word too short
     ask(small_plan);                                        // accepted: it only says which lanes are too small
     sweep(small_plan, SLICE(small_rows), outer_words, inner_words); // refused: two lanes are too small
+    ask(fading_plan);
+    sweep(fading_plan, SLICE(fading_rows), outer_words, inner_words); // fewer rows, and the same pairs
+    print_rows(fading_rows);
+    sweep(fading_plan, SLICE(rows), outer_words, inner_words); // refused: rows stand there that last too short for it
 
     withdraw(RUTHGARWY_OUTER, 11, 32, 32);
     withdraw(RUTHGARWY_OUTER, 11, 32, 32); // refused: it is gone
     withdraw(RUTHGARWY_OUTER, 11, 32, RUTHGARWY_LAST_MINUTE + 1); // refused: past the calendar, so never there
-    print_rows();
+    print_rows(rows);
 
     sweep(plan, SLICE(rows), RUTHGARWY_CACHE_WORDS(LANES, TUPLES), RUTHGARWY_CACHE_WORDS(LANES, TUPLES));
-    print_rows();
+    print_rows(rows);
 
     recut(cuts); // what hangs moves to the new lanes
-    print_rows();
+    print_rows(rows);
     insert(RUTHGARWY_OUTER, 12, 45, 47);
     insert(RUTHGARWY_OUTER, 13, 48, 60);
-    print_rows();
+    print_rows(rows);
     recut(falling); // refused: last minutes rise
     recut(early);   // refused: five drawings in a lane for four
     withdraw(RUTHGARWY_OUTER, 13, 48, 60);
     recut(early);
-    print_rows();
+    print_rows(rows);
     return 0;
 }

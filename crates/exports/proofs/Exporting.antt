@@ -1,14 +1,14 @@
 -- Laws of exported calls: what a call leaves, refused for a length and called; and its promise for what the words say.
 -- Assumes nothing.
 use mathlib.Core.Bool.{true}
-use mathlib.Core.List.{List, _++_}
+use mathlib.Core.List.{List}
 use mathlib.Core.Path.{_≡_, refl, sym, _∙_, ap, subst}
 use Prim.Native.Nat.{ℕ}
-use lib.ListN.{length, take}
+use lib.ListN.{length}
 use Rattle.lists.proofs.Choice.{pick-true}
 use Rattle.interval.specs.declared.time.Chronon.{Chronon}
 use Rattle.interval.specs.declared.tuple.Tuple.{Tuple}
-use Rattle.plan.specs.Plan.{mostPartitions, numbers}
+use Rattle.plan.specs.Plan.{mostPartitions}
 use Rattle.plan.specs.declared.Partitioning.{Partitioning}
 use Rattle.rows.specs.declared.Side.{Side}
 use Rattle.checks.specs.Stores.{Stores, Says}
@@ -20,10 +20,10 @@ use Rattle.join.specs.Repartitioning.{Repartitioned}
 use Rattle.join.specs.declared.Kind.{Kind}
 use Rattle.requirements.specs.Requirements.{RequirementsOf}
 use Rattle.requirements.specs.declared.Requirements.{Requirements}
-use Rattle.layout.specs.Layout.{planHead, planWords, planIn, wordsOf, told, refusal, answerFits, requirementsFit}
+use Rattle.layout.specs.Layout.{planWords, planIn, wordsOf, told, refusal, answerFits, requirementsFit}
 use Rattle.layout.specs.Layout.{lentNumber}
 use Rattle.layout.proofs.Lent.{lent-fits}
-use Rattle.layout.proofs.Words.{plan-put-cuts}
+use Rattle.layout.proofs.Words.{putLasts, plan-put-cuts}
 use Rattle.exports.specs.Exports.{Exported, ChangeExported, requirementsIn, noRequirements}
 use Rattle.exports.specs.Exports.{RequirementsExported}
 
@@ -108,9 +108,9 @@ module _ (ws : List ℕ) (p q : Partitioning) (new new′ : List Chronon) (s s�
   pub cuts-kept : (a .number ≡ 0 → ⊥) → Repartitioned (planIn ws) new′ s s′ a (planIn ws)
   cuts-kept ne = subst (λ v. Repartitioned (planIn ws) new′ s s′ a v) (said-cuts .refused ne .1) said-cuts
 
-  -- accepted, the new last minutes stand in them
+  -- accepted, the new last minutes stand in them, the other words and so the minimum are as they were
   pub cuts-put : (ws′ : List ℕ) → a .number ≡ 0 → length ws ≡ planWords → length new′ ≡ mostPartitions
-      → ws′ ≡ take planHead ws ++ numbers (q .lasts) → Repartitioned (planIn ws) new′ s s′ a (planIn ws′)
+      → ws′ ≡ putLasts ws (q .lasts) → Repartitioned (planIn ws) new′ s s′ a (planIn ws′)
   cuts-put ws′ z l n h =
       let back = plan-put-cuts ws l new′ q n (said-cuts .accepted z .0) in
       subst (λ v. Repartitioned (planIn ws) new′ s s′ a v) (sym (ap planIn h ∙ back)) said-cuts

@@ -7,7 +7,7 @@ use Prim.Native.Nat.{ℕ}
 use lib.ListN.{replicate}
 use Rattle.lists.specs.Choice.{firstOf}
 use Rattle.label.specs.Label.{labelCheck}
-use Rattle.interval.specs.Time.{overlap}
+use Rattle.interval.specs.Time.{overlap, durability, durable}
 use Rattle.interval.specs.Tuple.{tuple, itemCheck, validCheck, tupleNumber, sameLabel, sameInterval, sameTuple}
 use Rattle.interval.specs.declared.tuple.Tuple.{Tuple}
 use Rattle.plan.specs.Plan.{cutsOf, homeOf, home}
@@ -30,21 +30,26 @@ abbrev case : Side → Tuple → ℕ → Case
 case side t n = record { side = side; given = t; number = n }
 
 -- two lanes, with last minutes 34 and 99,999,999, of two tuples and one row each
-abbrev plan : Partitioning
-plan = record {
+abbrev lasting : ℕ → Partitioning
+lasting minimum = record {
   count = 2;
   lasts = map (λ (m : ℕ). record { 0 = m }) (34 ∷ 99999999 ∷ replicate 62 0);
   tuples = 2;
   rows = 1;
+  minimum = minimum;
 }
 
 -- lane 1 has its two drawings, one spot and its one row; lane 2 one spot of another label
-abbrev held : Machine
-held = record {
-  plan = plan;
+abbrev heldWith : ℕ → Machine
+heldWith minimum = record {
+  plan = lasting minimum;
   outer = tuple 38 10 30 31 ∷ tuple 38 11 32 32 ∷ [];
   inner = tuple 38 1 31 31 ∷ tuple 39 2 40 50 ∷ [];
 }
+
+-- where any overlap makes a row
+abbrev held : Machine
+held = heldWith 1
 
 -- ---- the tables
 
@@ -71,8 +76,24 @@ inserts =
 inserts-hold : map (λ (c : Case). insertAnswer held (c .side) (c .given)) inserts
     ≡ map (λ (c : Case). c .number) inserts
 unfolding insertAnswer partitionFull rowsPass firstOf tupleNumber labelCheck itemCheck validCheck tuplesAt rowsAt home
-    homeOf cutsOf joinOf rowsOfPair sameLabel overlap
+    homeOf cutsOf joinOf rowsOfPair sameLabel overlap durability durable
 inserts-hold = refl
+
+-- where a row lasts at least two minutes the wall has none, so that the drawing and the spot which got 10 are taken;
+-- two minutes make a row, and two of them in lane 1 get 10
+abbrev durables : List Case
+durables =
+    case Outer (tuple 38 12 31 40) 0
+    ∷ case Inner (tuple 38 2 30 30) 0
+    ∷ case Inner (tuple 38 2 30 31) 0
+    ∷ case Outer (tuple 39 12 49 50) 0
+    ∷ []
+
+durables-hold : map (λ (c : Case). insertAnswer (heldWith 2) (c .side) (c .given)) durables
+    ≡ map (λ (c : Case). c .number) durables
+unfolding insertAnswer partitionFull rowsPass firstOf tupleNumber labelCheck itemCheck validCheck tuplesAt rowsAt home
+    homeOf cutsOf joinOf rowsOfPair sameLabel overlap durability durable
+durables-hold = refl
 
 -- accepted: a drawing and a spot that are there. Then 6, 7, 8, 17; 11, of a drawing with another last minute, and of
 -- one that is a spot's

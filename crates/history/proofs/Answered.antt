@@ -49,7 +49,8 @@ any-agree p q n h =
 
 -- the rows of the machine with the tuple put in, by the join seen from the tuple's side
 put-rows : (side : Side) (t : Tuple) (m : Machine) (p : Partitioning) (i : ℕ) → p ≡ m .plan
-    → length (rowsAt p i (joinFrom side (t ∷ ownTuples side m) (otherTuples side m))) ≡ rowsHeldAt (put side t m) i
+    → length (rowsAt p i (joinFrom (p .minimum) side (t ∷ ownTuples side m) (otherTuples side m)))
+    ≡ rowsHeldAt (put side t m) i
 put-rows Outer t m p i e = rw e
 put-rows Inner t m p i e = rw e
 
@@ -63,7 +64,7 @@ module _ (m : Machine) (p : Partitioning) (s : Stores) (k : Kept m p s) (side : 
   new = made p side t (otherStore side s)
 
   abbrev after : List Row
-  after = joinFrom side (t ∷ ownTuples side m) (otherTuples side m)
+  after = joinFrom (p .minimum) side (t ∷ ownTuples side m) (otherTuples side m)
 
   -- ---- how many a partition holds
 
@@ -79,7 +80,7 @@ module _ (m : Machine) (p : Partitioning) (s : Stores) (k : Kept m p s) (side : 
   rows-counted : (i : ℕ) → i < p .count
       → counted (rowPart p (s .rows) i) + length (rowsAt p i new) ≡ length (rowsAt p i after)
   rows-counted i l =
-      let before = joinFrom side (ownTuples side m) (otherTuples side m) in
+      let before = joinFrom (p .minimum) side (ownTuples side m) (otherTuples side m) in
       let part = rowPart p (s .rows) i in
       ap (λ (n : ℕ). n + length (rowsAt p i new))
       (sym (length-rows part)

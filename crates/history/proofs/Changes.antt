@@ -41,18 +41,20 @@ home-in-plan p legal places t e =
 
 -- what a tuple makes with a store is what it makes with the tuples that the store holds
 made-held : (p : Partitioning) (side : Side) (t : Tuple) (ws : List ℕ) (us : List Tuple) → TupleStore p ws us
-    → Same sameRow (made p side t ws) (madeWith side t us)
+    → Same sameRow (made p side t ws) (madeWith (p .minimum) side t us)
 unfolding made
-made-held p side t ws us h = made-same side t (storedTuples p ws) us (h .held)
+made-held p side t ws us h = made-same (p .minimum) side t (storedTuples p ws) us (h .held)
 
 -- the join with one tuple more, by the rows that the tuple makes with the other side's store
 pub join-made : (p : Partitioning) (side : Side) (t : Tuple) (ts us : List Tuple) (other : List ℕ)
-    → TupleStore p other us → Same sameRow (joinFrom side (t ∷ ts) us) (joinFrom side ts us ++ made p side t other)
+    → TupleStore p other us
+    → Same sameRow (joinFrom (p .minimum) side (t ∷ ts) us) (joinFrom (p .minimum) side ts us ++ made p side t other)
 join-made p side t ts us other h =
-    let before = joinFrom side ts us in
+    let before = joinFrom (p .minimum) side ts us in
     λ r.
-    join-from-more side t ts us r
-    ∙ same-append sameRow before before (madeWith side t us) (made p side t other) (same-refl sameRow before)
+    join-from-more (p .minimum) side t ts us r
+    ∙ same-append sameRow before before (madeWith (p .minimum) side t us) (made p side t other)
+    (same-refl sameRow before)
     (λ q. sym (made-held p side t other us h q)) r
 
 -- a partition that shares no chronon with the tuple gains nothing

@@ -195,7 +195,7 @@ module _ (m : Machine) (p : Partitioning) (side : Side) (t : Tuple) (s s′ : St
             shrunk-held p (s .rows) (s′ .rows) _ _
             (rows-held-same p (s .rows) _ _ (w .made-rows)
             (λ q.
-            join-from-same side (ownTuples side m) (t ∷ rest) (otherTuples side m)
+            join-from-same (p .minimum) side (ownTuples side m) (t ∷ rest) (otherTuples side m)
             (take-out sameTuple same-tuple-is t (ownTuples side m) (has-one z)) q
             ∙ join-made p side t rest (otherTuples side m) (otherStore side s) (w .theirs) q))
             (r .rows) (r .sound);

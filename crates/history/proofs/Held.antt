@@ -75,26 +75,27 @@ rows-held-none p = record {
 
 -- ---- the join seen from one side: own tuples, and the other side's
 
-abbrev pub joinFrom : Side → List Tuple → List Tuple → List Row
-joinFrom Outer own other = joinOf own other
-joinFrom Inner own other = joinOf other own
+abbrev pub joinFrom : ℕ → Side → List Tuple → List Tuple → List Row
+joinFrom minimum Outer own other = joinOf minimum own other
+joinFrom minimum Inner own other = joinOf minimum other own
 
 -- with one own tuple more
-pub join-from-more : (side : Side) (t : Tuple) (ts us : List Tuple)
-    → Same sameRow (joinFrom side (t ∷ ts) us) (joinFrom side ts us ++ madeWith side t us)
-join-from-more Outer t ts us =
-    rw (join-outer-more t ts us) (same-comm sameRow (madeWith Outer t us) (joinOf ts us))
-join-from-more Inner t ts us =
-    λ r. join-inner-more t us ts r ∙ same-comm sameRow (madeWith Inner t us) (joinOf us ts) r
+pub join-from-more : (minimum : ℕ) (side : Side) (t : Tuple) (ts us : List Tuple)
+    → Same sameRow (joinFrom minimum side (t ∷ ts) us) (joinFrom minimum side ts us ++ madeWith minimum side t us)
+join-from-more minimum Outer t ts us =
+    rw (join-outer-more minimum t ts us) (same-comm sameRow (madeWith minimum Outer t us) (joinOf minimum ts us))
+join-from-more minimum Inner t ts us =
+    λ r.
+    join-inner-more minimum t us ts r ∙ same-comm sameRow (madeWith minimum Inner t us) (joinOf minimum us ts) r
 
 -- of own tuples that are the same
-pub join-from-same : (side : Side) (ts ts′ us : List Tuple) → Same sameTuple ts ts′
-    → Same sameRow (joinFrom side ts us) (joinFrom side ts′ us)
-join-from-same Outer ts ts′ us e = join-same ts ts′ us us e (same-refl sameTuple us)
-join-from-same Inner ts ts′ us e = join-same us us ts ts′ (same-refl sameTuple us) e
+pub join-from-same : (minimum : ℕ) (side : Side) (ts ts′ us : List Tuple) → Same sameTuple ts ts′
+    → Same sameRow (joinFrom minimum side ts us) (joinFrom minimum side ts′ us)
+join-from-same minimum Outer ts ts′ us e = join-same minimum ts ts′ us us e (same-refl sameTuple us)
+join-from-same minimum Inner ts ts′ us e = join-same minimum us us ts ts′ (same-refl sameTuple us) e
 
 -- the side's own store holds ts, the other side's us, and the rows store their join
 pub record Wall (p : Partitioning) (side : Side) (own other rows : List ℕ) (ts us : List Tuple) : Type 0 where
   pub mine : TupleStore p own ts
   pub theirs : TupleStore p other us
-  pub made-rows : RowStore p rows (joinFrom side ts us)
+  pub made-rows : RowStore p rows (joinFrom (p .minimum) side ts us)

@@ -32,7 +32,7 @@ pub record Kept (m : Machine) (p : Partitioning) (s : Stores) : Type 0 where
   pub legal : planNumber p ≡ 0
   pub outer : TupleStore p (s .outer) (m .outer)
   pub inner : TupleStore p (s .inner) (m .inner)
-  pub rows : RowStore p (s .rows) (joinOf (m .outer) (m .inner))
+  pub rows : RowStore p (s .rows) (joinOf (p .minimum) (m .outer) (m .inner))
 
 -- ---- it says what the demand does
 

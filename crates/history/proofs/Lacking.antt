@@ -35,13 +35,13 @@ module _ (p : Partitioning) (side : Side) (t : Tuple) (own other rows : List ℕ
     (w : Wall p side own other rows ts us) where
   -- a row of one of the plan's partitions stands in the rows store as often as in the join
   times-held : (r : Row) → home p (rowTo r) < p .count
-      → times sameRow r (storedRows p rows) ≡ times sameRow r (joinFrom side ts us)
+      → times sameRow r (storedRows p rows) ≡ times sameRow r (joinFrom (p .minimum) side ts us)
   unfolding rowsAt timesOfRow
   times-held r h =
       let at = home p (rowTo r) in
       times-stored p rows at h (w .made-rows .sound) r refl
       ∙ w .made-rows .held at h r
-      ∙ times-at sameRow same-row-is (λ q. home p (rowTo q)) at r refl (joinFrom side ts us)
+      ∙ times-at sameRow same-row-is (λ q. home p (rowTo q)) at r refl (joinFrom (p .minimum) side ts us)
 
   module _ (there : any (sameTuple t) (storedTuples p own) ≡ true) where
     -- the other own tuples
@@ -49,14 +49,14 @@ module _ (p : Partitioning) (side : Side) (t : Tuple) (own other rows : List ℕ
     rest = without (sameTuple t) ts
 
     -- the join is theirs, and the rows that the tuple makes
-    join-parts : (r : Row) → times sameRow r (joinFrom side ts us)
-        ≡ times sameRow r (joinFrom side rest us) + times sameRow r (made p side t other)
+    join-parts : (r : Row) → times sameRow r (joinFrom (p .minimum) side ts us)
+        ≡ times sameRow r (joinFrom (p .minimum) side rest us) + times sameRow r (made p side t other)
     join-parts r =
         let even = any-same sameTuple same-tuple-is (sameTuple t) (storedTuples p own) ts (w .mine .held) in
         let has : any (sameTuple t) ts ≡ true = sym even ∙ there in
-        join-from-same side ts (t ∷ rest) us (take-out sameTuple same-tuple-is t ts has) r
+        join-from-same (p .minimum) side ts (t ∷ rest) us (take-out sameTuple same-tuple-is t ts has) r
         ∙ join-made p side t rest us other (w .theirs) r
-        ∙ tally-append (sameRow r) (joinFrom side rest us) (made p side t other)
+        ∙ tally-append (sameRow r) (joinFrom (p .minimum) side rest us) (made p side t other)
 
     -- so it has each of them at least as often
     enough : (r : Row) → ltb (home p (rowTo r)) (p .count) ≡ true

@@ -47,13 +47,14 @@ use Rattle.history.proofs.Kept.{Kept, Done, told-accepted, done-refused
 -- ---- the rows that a current wall stores are the join's
 
 -- the rows of legal tuples are legal
-join-legal : (ts us : List Tuple) → all legalTuple ts ≡ true → all legalTuple us ≡ true
-    → all legalRow (joinOf ts us) ≡ true
-join-legal [] us h g = rw (join-empty-left us)
-join-legal (t ∷ ts) us h g =
-    ap (all legalRow) (join-outer-more t ts us) ∙ all-append legalRow (madeWith Outer t us) (joinOf ts us)
-    ∙ and-both _ _ (made-legal Outer t us (and-left (legalTuple t) (all legalTuple ts) h) g)
-    (join-legal ts us (and-right (legalTuple t) (all legalTuple ts) h) g)
+join-legal : (minimum : ℕ) (ts us : List Tuple) → all legalTuple ts ≡ true → all legalTuple us ≡ true
+    → all (legalRow minimum) (joinOf minimum ts us) ≡ true
+join-legal minimum [] us h g = rw (join-empty-left minimum us)
+join-legal minimum (t ∷ ts) us h g =
+    ap (all (legalRow minimum)) (join-outer-more minimum t ts us)
+    ∙ all-append (legalRow minimum) (madeWith minimum Outer t us) (joinOf minimum ts us)
+    ∙ and-both _ _ (made-legal minimum Outer t us (and-left (legalTuple t) (all legalTuple ts) h) g)
+    (join-legal minimum ts us (and-right (legalTuple t) (all legalTuple ts) h) g)
 
 -- the tuples that a store holds are legal
 held-legal : (p : Partitioning) (ws : List ℕ) (ts : List Tuple) → TupleStore p ws ts → all legalTuple ts ≡ true
@@ -62,14 +63,15 @@ held-legal p ws ts h =
 
 -- each legal row has a home
 rows-homed : (p : Partitioning) → planNumber p ≡ 0 → length (p .lasts) ≡ mostPartitions → (rs : List Row)
-    → all legalRow rs ≡ true → all (λ r. ltb (home p (rowTo r)) (p .count)) rs ≡ true
+    → all (legalRow (p .minimum)) rs ≡ true → all (λ r. ltb (home p (rowTo r)) (p .count)) rs ≡ true
 unfolding home
 rows-homed p legal places rs h =
-    all-imply legalRow _ rs
+    all-imply (legalRow (p .minimum)) _ rs
     (λ r e. lt-ltb (home p (rowTo r)) (p .count)
     (omega (
       arith,
-      home-within (cutsOf p) (legal-plan p legal .covered) (rowTo r) (valid-ok (r .valid) (legal-row r e .valid) .1),
+      home-within (cutsOf p) (legal-plan p legal .covered) (rowTo r)
+          (valid-ok (r .valid) (legal-row (p .minimum) r e .valid) .1),
       length-cuts p places (legal-plan p legal .most),
     )))
     h
@@ -117,10 +119,11 @@ module _ (m : Machine) (p p′ : Partitioning) (new : List Chronon) (s s′ : St
   with-cuts = record { plan = withCuts (m .plan) new; outer = m .outer; inner = m .inner }
 
   kept-with-cuts : a .number ≡ 0 → Kept with-cuts (withCuts p new) s′
+  unfolding withCuts
   kept-with-cuts z =
       let checked = passed p new s (sym (called .number) ∙ z) in
       let moved = called .accepted z .1 in
-      let rows = joinOf (m .outer) (m .inner) in
+      let rows = joinOf (p .minimum) (m .outer) (m .inner) in
       record {
         in-force = ap (λ (q : Partitioning). withCuts q new) (k .in-force);
         places = with-cuts-places p new long (k .places) (k .legal);
@@ -130,7 +133,7 @@ module _ (m : Machine) (p p′ : Partitioning) (new : List Chronon) (s s′ : St
         rows =
             rows-with-cuts p new s s′ rows (k .rows)
             (rows-homed p (k .legal) (k .places) rows
-            (join-legal (m .outer) (m .inner) (held-legal p (s .outer) (m .outer) (k .outer))
+            (join-legal (p .minimum) (m .outer) (m .inner) (held-legal p (s .outer) (m .outer) (k .outer))
             (held-legal p (s .inner) (m .inner) (k .inner))))
             moved;
       }

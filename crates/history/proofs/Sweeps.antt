@@ -21,10 +21,10 @@ use Rattle.history.proofs.Kept.{Kept, Done, told-accepted, done-refused
 
 -- the join of what two stores hold is the join of the lists
 joined-held : (p : Partitioning) (outer inner : List ℕ) (ds ss : List Tuple) → TupleStore p outer ds
-    → TupleStore p inner ss → Same sameRow (joined p outer inner) (joinOf ds ss)
+    → TupleStore p inner ss → Same sameRow (joined p outer inner) (joinOf (p .minimum) ds ss)
 unfolding joined
 joined-held p outer inner ds ss h k =
-    join-same (storedTuples p outer) ds (storedTuples p inner) ss (h .held) (k .held)
+    join-same (p .minimum) (storedTuples p outer) ds (storedTuples p inner) ss (h .held) (k .held)
 
 module _ (m : Machine) (p : Partitioning) (s s′ : Stores) (c d c′ d′ : List ℕ) (a : Answer) (k : Kept m p s)
     (called : Swept p s c d s′ c′ d′ a) where
@@ -38,7 +38,7 @@ module _ (m : Machine) (p : Partitioning) (s s′ : Stores) (c d c′ d′ : Lis
         outer = rw (r .outer) (k .outer);
         inner = rw (r .inner) (k .inner);
         rows =
-            rows-held-same p (s′ .rows) (joined p (s .outer) (s .inner)) (joinOf (m .outer) (m .inner))
+            rows-held-same p (s′ .rows) (joined p (s .outer) (s .inner)) (joinOf (p .minimum) (m .outer) (m .inner))
             (record { long = r .rows .long ∙ k .rows .long; sound = r .rows .sound; held = r .rows .held })
             (joined-held p (s .outer) (s .inner) (m .outer) (m .inner) (k .outer) (k .inner));
       }

@@ -8,7 +8,7 @@ use Prim.Native.Nat.{ℕ, _+_, _-_, _*_}
 use lib.ListN.{length, replicate}
 use Rattle.lists.specs.Members.{gather, without, below}
 use Rattle.label.specs.Label.{rank, labelNumber}
-use Rattle.interval.specs.Time.{span, overlap}
+use Rattle.interval.specs.Time.{span, overlap, durability, durable}
 use Rattle.interval.specs.Tuple.{tuple, sameLabel, sameInterval, sameTuple, rowWords}
 use Rattle.interval.specs.declared.time.Interval.{Interval}
 use Rattle.interval.specs.declared.tuple.Tuple.{Tuple}
@@ -30,6 +30,7 @@ plan n cuts = record {
   lasts = map (λ (m : ℕ). record { 0 = m }) (cuts ++ replicate (64 - length cuts) 0);
   tuples = 8;
   rows = 8;
+  minimum = 1;
 }
 
 -- the words of a store into which these tuples were inserted
@@ -102,21 +103,21 @@ table =
     ++ (line 1 38 11 1 32 32 ++ (line 2 38 10 1 33 35 ++ (line 2 38 10 2 36 40 ++ line 3 38 11 2 41 48))))
     ∷ (case 2 (ends (overlap (span 1 5) (span 5 9))) (5 ∷ (5 ∷ []))
     ∷ (case 3 (ends (overlap (span 1 5) (span 6 9))) []
-    ∷ (case 4 (words (rowsOfPair (tuple 1 5 1 10) (tuple 2 7 1 10))) []
+    ∷ (case 4 (words (rowsOfPair 1 (tuple 1 5 1 10) (tuple 2 7 1 10))) []
     ∷ (case 5
     (labelNumber (65 ∷ [])
     ∷ (labelNumber (90 ∷ [])
     ∷ (labelNumber (65 ∷ (65 ∷ [])) ∷ (labelNumber (65 ∷ (76 ∷ [])) ∷ (labelNumber (replicate 8 90) ∷ [])))))
     (1 ∷ (26 ∷ (27 ∷ (38 ∷ (217180147158 ∷ [])))))
-    ∷ (case 6 (words (joinOf twice spot)) (1 ∷ (5 ∷ (7 ∷ (5 ∷ (10 ∷ (1 ∷ (5 ∷ (7 ∷ (5 ∷ (10 ∷ []))))))))))
-    ∷ (case 7 (words (joinOf (without (sameTuple (tuple 1 5 1 10)) twice) spot)) (1 ∷ (5 ∷ (7 ∷ (5 ∷ (10 ∷ [])))))
-    ∷ (case 8 (words (joinOf [] spots ++ joinOf drawings [])) []
+    ∷ (case 6 (words (joinOf 1 twice spot)) (1 ∷ (5 ∷ (7 ∷ (5 ∷ (10 ∷ (1 ∷ (5 ∷ (7 ∷ (5 ∷ (10 ∷ []))))))))))
+    ∷ (case 7 (words (joinOf 1 (without (sameTuple (tuple 1 5 1 10)) twice) spot)) (1 ∷ (5 ∷ (7 ∷ (5 ∷ (10 ∷ [])))))
+    ∷ (case 8 (words (joinOf 1 [] spots ++ joinOf 1 drawings [])) []
     ∷ (case 9 (compared three ∷ (compared single ∷ [])) (5 ∷ (8 ∷ []))
     ∷ (case 10 ((home three 34 + 1) ∷ ((home three 35 + 1) ∷ [])) (1 ∷ (2 ∷ []))
     ∷ [])))))))))
 
 -- all ten: what is computed is what is stated
 pub ten-cases : map (λ (c : Case). c .computed) table ≡ map (λ (c : Case). c .stated) table
-unfolding labelNumber rank overlap sameLabel sameInterval sameTuple rowsOfPair joinOf pairsOf joined meet storedTuples
-    rowsAt home homeOf cutsOf startOf counted recordsIn tuplesIn appended
+unfolding labelNumber rank overlap durability durable sameLabel sameInterval sameTuple rowsOfPair joinOf pairsOf joined
+    meet storedTuples rowsAt home homeOf cutsOf startOf counted recordsIn tuplesIn appended
 ten-cases = refl

@@ -29,7 +29,7 @@ abbrev pub tuplesHeldAt : Machine → Side → ℕ → ℕ
 tuplesHeldAt m side i = length (tuplesAt (m .plan) i (ownTuples side m))
 
 abbrev pub rowsHeldAt : Machine → ℕ → ℕ
-rowsHeldAt m i = length (rowsAt (m .plan) i (joinOf (m .outer) (m .inner)))
+rowsHeldAt m i = length (rowsAt (m .plan) i (joinOf (m .plan .minimum) (m .outer) (m .inner)))
 
 -- 9: "the tuple's own lane is at capacity"
 unfoldable pub partitionFull : Machine → Side → Tuple → Bool

@@ -26,7 +26,7 @@ pub record Current (m : Machine) (p : Partitioning) (s : Stores) : Type 0 where
   pub all-sound : sound p s ≡ true
   pub outer : TuplesHeld p (s .outer) (m .outer)
   pub inner : TuplesHeld p (s .inner) (m .inner)
-  pub rows : RowsHeld p (s .rows) (joinOf (m .outer) (m .inner))
+  pub rows : RowsHeld p (s .rows) (joinOf (p .minimum) (m .outer) (m .inner))
 
 -- "each accepted change left untouched every rows lane that shares no minute with the changed span"
 abbrev pub Untouched : Partitioning → Tuple → List ℕ → List ℕ → Type 0

@@ -8,7 +8,7 @@ use mathlib.Core.Path.{_≡_, refl}
 use Prim.Native.Nat.{ℕ}
 use Rattle.lists.specs.Choice.{firstOf}
 use Rattle.label.specs.Label.{labelCheck}
-use Rattle.interval.specs.Time.{span, overlap}
+use Rattle.interval.specs.Time.{span, overlap, durability, durable}
 use Rattle.interval.specs.Tuple.{tuple, row, itemCheck, validCheck, tupleNumber, rowNumber, legalRow}
 use Rattle.interval.specs.Tuple.{sameInterval, sameTuple, sameRow, tupleWords, tupleOf, rowWords, rowOf}
 use Rattle.interval.specs.declared.time.Interval.{Interval}
@@ -80,15 +80,41 @@ checks-hold = refl
 
 -- a row is legal by its label, both numbers and its span
 rows-hold :
-    (legalRow (row 1 999999 999999 0 99999999) ≡ true)
-    × (legalRow (row 0 1 1 0 0) ≡ false)
-    × (legalRow (row 1 1000000 1 0 0) ≡ false)
-    × (legalRow (row 1 1 1000000 0 0) ≡ false)
-    × (legalRow (row 1 1 1 1 0) ≡ false)
-    × (legalRow (row 1 1 1 0 100000000) ≡ false)
-    × (legalRow (row 1 1 1 100000001 100000000) ≡ false)
-unfolding firstOf labelCheck itemCheck validCheck rowNumber legalRow
+    (legalRow 1 (row 1 999999 999999 0 99999999) ≡ true)
+    × (legalRow 1 (row 0 1 1 0 0) ≡ false)
+    × (legalRow 1 (row 1 1000000 1 0 0) ≡ false)
+    × (legalRow 1 (row 1 1 1000000 0 0) ≡ false)
+    × (legalRow 1 (row 1 1 1 1 0) ≡ false)
+    × (legalRow 1 (row 1 1 1 0 100000000) ≡ false)
+    × (legalRow 1 (row 1 1 1 100000001 100000000) ≡ false)
+unfolding firstOf labelCheck itemCheck validCheck rowNumber durability durable legalRow
 rows-hold = (refl, refl, refl, refl, refl, refl, refl)
+
+-- and by its minutes: a minimum one below, at and one above them; a reversed row is not legal whatever the minimum
+durable-rows-hold :
+    (legalRow 4 (row 1 1 1 5 9) ≡ true)
+    × (legalRow 5 (row 1 1 1 5 9) ≡ true)
+    × (legalRow 6 (row 1 1 1 5 9) ≡ false)
+    × (legalRow 2 (row 1 1 1 5 5) ≡ false)
+    × (legalRow 0 (row 1 1 1 5 4) ≡ false)
+unfolding firstOf labelCheck itemCheck validCheck rowNumber durability durable legalRow
+durable-rows-hold = (refl, refl, refl, refl, refl)
+
+-- a span, its minutes, and whether it has as many as a minimum: one minute, two, the whole calendar, the most that
+-- words can say, where the sum is one more than a word holds
+durables-hold :
+    (durability (span 5 5) ≡ 1)
+    × (durability (span 5 6) ≡ 2)
+    × (durability (span 0 99999999) ≡ 100000000)
+    × (durability (span 0 18446744073709551615) ≡ 18446744073709551616)
+    × (durable 1 (span 5 5) ≡ true)
+    × (durable 2 (span 5 5) ≡ false)
+    × (durable 1440 (span 0 1439) ≡ true)
+    × (durable 1440 (span 0 1438) ≡ false)
+    × (durable 18446744073709551615 (span 0 18446744073709551614) ≡ true)
+    × (durable 18446744073709551615 (span 1 18446744073709551614) ≡ false)
+unfolding durability durable
+durables-hold = (refl, refl, refl, refl, refl, refl, refl, refl, refl, refl)
 
 -- tuples that differ in one word are not equal
 same-hold :

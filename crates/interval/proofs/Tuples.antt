@@ -19,7 +19,7 @@ use Rattle.lists.specs.Words.{partAt}
 use Rattle.lists.proofs.Choice.{bool-cases, and-left, and-right, and-both, refuse-none, first-none}
 use Rattle.lists.proofs.Parts.{reads-part}
 use Rattle.label.specs.Label.{labelCheck}
-use Rattle.interval.specs.Time.{calendarEnd}
+use Rattle.interval.specs.Time.{calendarEnd, durable}
 use Rattle.interval.specs.Tuple.{tupleWidth, tupleOf, tupleWords, rowWidth, rowOf, rowWords}
 use Rattle.interval.specs.Tuple.{itemCheck, validCheck, tupleNumber, legalTuple, rowNumber, legalRow}
 use Rattle.interval.specs.Tuple.{sameInterval, sameTuple, sameRow}
@@ -176,21 +176,29 @@ pub tuple-legal : (t : Tuple) → LegalTuple t → legalTuple t ≡ true
 unfolding legalTuple tupleNumber firstOf
 tuple-legal t l = rw (l .label, l .item, l .valid)
 
-pub record LegalRow (r : Row) : Type 0 where
+pub record LegalRow (minimum : ℕ) (r : Row) : Type 0 where
   pub label : labelCheck (r .label) ≡ 0
   pub outer : itemCheck (r .outer) ≡ 0
   pub inner : itemCheck (r .inner) ≡ 0
   pub valid : validCheck (r .valid) ≡ 0
+  pub lasts : durable minimum (r .valid) ≡ true
 
-pub legal-row : (r : Row) → legalRow r ≡ true → LegalRow r
+pub legal-row : (minimum : ℕ) (r : Row) → legalRow minimum r ≡ true → LegalRow minimum r
 unfolding legalRow rowNumber
-legal-row r h =
-    let a = first-none (labelCheck (r .label)) _ (eqb-true (rowNumber r) 0 h) in
+legal-row minimum r h =
+    let checks = and-left (eqb (rowNumber r) 0) (durable minimum (r .valid)) h in
+    let a = first-none (labelCheck (r .label)) _ (eqb-true (rowNumber r) 0 checks) in
     let b = first-none (itemCheck (r .outer)) _ (a .1) in
     let c = first-none (itemCheck (r .inner)) _ (b .1) in
     let d = first-none (validCheck (r .valid)) _ (c .1) in
-    record { label = a .0; outer = b .0; inner = c .0; valid = d .0 }
+    record {
+      label = a .0;
+      outer = b .0;
+      inner = c .0;
+      valid = d .0;
+      lasts = and-right (eqb (rowNumber r) 0) (durable minimum (r .valid)) h;
+    }
 
-pub row-legal : (r : Row) → LegalRow r → legalRow r ≡ true
+pub row-legal : (minimum : ℕ) (r : Row) → LegalRow minimum r → legalRow minimum r ≡ true
 unfolding legalRow rowNumber firstOf
-row-legal r l = rw (l .label, l .outer, l .inner, l .valid)
+row-legal minimum r l = rw (l .label, l .outer, l .inner, l .valid, l .lasts)

@@ -7,7 +7,7 @@ use lib.ListN.{getD}
 use lib.Dec.{ltb, eqb}
 use Rattle.lists.specs.Choice.{refuseIf, firstOf}
 use Rattle.label.specs.Label.{labelCheck}
-use Rattle.interval.specs.Time.{calendarEnd, span}
+use Rattle.interval.specs.Time.{calendarEnd, span, durable}
 use Rattle.interval.specs.declared.time.Interval.{Interval}
 use Rattle.interval.specs.declared.tuple.Tuple.{Tuple}
 use Rattle.interval.specs.declared.tuple.Row.{Row}
@@ -76,8 +76,9 @@ unfoldable pub rowNumber : Row → ℕ
 rowNumber r =
     firstOf (labelCheck (r .label) ∷ (itemCheck (r .outer) ∷ (itemCheck (r .inner) ∷ (validCheck (r .valid) ∷ []))))
 
-unfoldable pub legalRow : Row → Bool
-legalRow r = eqb (rowNumber r) 0
+-- "A stored row with fewer minutes is not legal." (document 02, (f))
+unfoldable pub legalRow : ℕ → Row → Bool
+legalRow minimum r = eqb (rowNumber r) 0 && durable minimum (r .valid)
 
 -- "equal labels", of an outer and an inner tuple
 unfoldable pub sameLabel : Tuple → Tuple → Bool

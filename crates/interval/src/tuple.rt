@@ -1,9 +1,9 @@
-// Tuples and rows: their checks 6, 7, 8 and 17; their equality. No order of calls, no cost beyond a few comparisons.
-// Their words are read and written by the crate `encoding`.
+// Tuples and rows: their checks 6, 7, 8 and 17; legal rows; their equality. No order of calls, no cost beyond a few
+// comparisons. Their words are read and written by the crate `encoding`.
 ghost use mathlib.Core.Path.{_≡_};
 ghost use Rattle.label.specs.Label.{labelCheck};
-ghost use Rattle.interval.specs.Tuple.{itemCheck, validCheck, tupleNumber, rowNumber, sameLabel, sameInterval};
-ghost use Rattle.interval.specs.Tuple.{sameTuple, sameRow};
+ghost use Rattle.interval.specs.Tuple.{itemCheck, validCheck, tupleNumber, rowNumber, legalRow, sameLabel};
+ghost use Rattle.interval.specs.Tuple.{sameInterval, sameTuple, sameRow};
 use crate::time::CALENDAR_END;
 use crate::time::Chronon;
 use crate::time::Interval;
@@ -95,6 +95,16 @@ pub fn row_number(row: Row) -> u64
         return inner;
     }
     valid_check(row.valid)
+}
+
+// Whether a row passes its checks and lasts at least `minimum` minutes.
+pub fn legal_row(minimum: u64, row: Row) -> bool
+    ensures { λ r. ⌜ r ≡ legalRow minimum row ⌝ }
+{
+    if row_number(row) != 0 {
+        return false;
+    }
+    crate::time::durable(minimum, row.valid)
 }
 
 // Two tuples, an outer and an inner one, whose labels are equal.

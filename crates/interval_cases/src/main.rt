@@ -2,6 +2,7 @@
 // A line for each group: its name, how many cases there are, how many differ, and counts of the crate's answers.
 mod fields;
 mod labels;
+mod minutes;
 mod overlaps;
 mod report;
 mod tuples;
@@ -15,4 +16,6 @@ fn main() {
     fields::run_twos();
     fields::run_lengths();
     tuples::run();
+    minutes::run();
+    minutes::run_rows();
 }

@@ -1,5 +1,6 @@
 -- What follows from a repartition's record: 13 is never given (`never-thirteen`), what each partition holds after it
--- (`lanes-after`), and that a wall which holds nothing is left as it is (`empty-kept`).
+-- (`lanes-after`), that a wall which holds nothing is left as it is (`empty-kept`), and that the plan keeps its minimum
+-- (`minimum-kept`).
 -- Assumes nothing.
 use mathlib.Core.Bool.{Bool, true, false, not, _||_, false≢true}
 use mathlib.Core.List.{List, [], _∷_}
@@ -17,7 +18,8 @@ use Rattle.lists.proofs.Same.{same-keep, length-same}
 use Rattle.interval.specs.Tuple.{to, sameTuple, sameRow}
 use Rattle.interval.specs.declared.time.Chronon.{Chronon}
 use Rattle.interval.proofs.Tuples.{same-tuple-is, same-row-is}
-use Rattle.plan.specs.Plan.{mostPartitions, mostTuples, mostRows, outside, cover, cutsOf, numbers, planNumber, withCuts}
+use Rattle.plan.specs.Plan.{mostPartitions, mostTuples, mostRows, mostMinimum, outside, cover, cutsOf, numbers}
+use Rattle.plan.specs.Plan.{minimumCheck, planNumber, withCuts}
 use Rattle.plan.specs.declared.Partitioning.{Partitioning}
 use Rattle.part.specs.Part.{roomOf, soundPart}
 use Rattle.part.proofs.Parts.{Kind, tuples, rows, length-values, sound-none}
@@ -30,67 +32,69 @@ use Rattle.checks.specs.Stores.{Stores, stores, tuplesLength, rowsLength, tuple
 use Rattle.checks.specs.Stores.{lengthsNumber, storeNumber}
 use Rattle.checks.proofs.Checks.{ready}
 use Rattle.repartitioning.specs.Moving.{tuplesOverfull, rowsOverfull, moveNumber, Moved, TuplesMoved, RowsMoved}
-use Rattle.join.specs.Repartitioning.{repartitionNumber, NeverThirteen, LanesAfter, EmptyKept}
+use Rattle.join.specs.Repartitioning.{repartitionNumber, NeverThirteen, LanesAfter, EmptyKept, MinimumKept}
 
--- ---- 13 is never given: the numbers of its checks are 1 to 5, 2, 9 and 10
+-- ---- 13 is never given: the numbers of its checks are 1 to 5, 18, 2, 9 and 10
 
-first-within : (n most : ℕ) (ns : List ℕ) → n ≤ most → firstOf ns ≤ most → firstOf (n ∷ ns) ≤ most
+abbrev Other : ℕ → Type 0
+Other n = n ≡ 13 → ⊥
+
+first-other : (n : ℕ) (ns : List ℕ) → Other n → Other (firstOf ns) → Other (firstOf (n ∷ ns))
 unfolding firstOf
-first-within zero most ns h g = g
-first-within (suc n) most ns h g = h
+first-other zero ns h g = g
+first-other (suc n) ns h g = h
 
-none-within : (most : ℕ) → firstOf [] ≤ most
+none-other : Other (firstOf [])
 unfolding firstOf
-none-within most = omega arith
+none-other e = omega (arith, e)
 
-check-within : (b : Bool) (n most : ℕ) → n ≤ most → refuseIf b n ≤ most
-check-within true n most h = h
-check-within false n most h = omega arith
+check-other : (b : Bool) (n : ℕ) → Other n → Other (refuseIf b n)
+check-other true n h = h
+check-other false n h = λ e. omega (arith, e)
 
--- three checks, whatever their tests
-three-within : (a b c : Bool) (l m n most : ℕ) → l ≤ most → m ≤ most → n ≤ most
-    → firstOf (refuseIf a l ∷ (refuseIf b m ∷ (refuseIf c n ∷ []))) ≤ most
-three-within a b c l m n most e f g =
-    first-within (refuseIf a l) most _ (check-within a l most e)
-    (first-within (refuseIf b m) most _ (check-within b m most f)
-    (first-within (refuseIf c n) most [] (check-within c n most g) (none-within most)))
+-- three checks before others, whatever their tests
+three-other : (a b c : Bool) (l m n : ℕ) (ns : List ℕ) → Other l → Other m → Other n → Other (firstOf ns)
+    → Other (firstOf (refuseIf a l ∷ (refuseIf b m ∷ (refuseIf c n ∷ ns))))
+three-other a b c l m n ns e f g h =
+    first-other (refuseIf a l) _ (check-other a l e)
+    (first-other (refuseIf b m) _ (check-other b m f) (first-other (refuseIf c n) ns (check-other c n g) h))
 
-plan-within : (p : Partitioning) → planNumber p ≤ 5
-unfolding planNumber
-plan-within p =
-    three-within (outside 1 mostPartitions (p .count)) (not (cover (cutsOf p)))
-    (outside 1 mostTuples (p .tuples) || outside 1 mostRows (p .rows)) 1 2 3 5
-    (omega arith) (omega arith) (omega arith)
+plan-other : (p : Partitioning) → Other (planNumber p)
+unfolding planNumber minimumCheck
+plan-other p =
+    three-other (outside 1 mostPartitions (p .count)) (not (cover (cutsOf p)))
+    (outside 1 mostTuples (p .tuples) || outside 1 mostRows (p .rows)) 1 2 3 _
+    (λ e. omega (arith, e)) (λ e. omega (arith, e)) (λ e. omega (arith, e))
+    (first-other (minimumCheck (p .minimum)) []
+    (check-other (outside 1 mostMinimum (p .minimum)) 18 (λ e. omega (arith, e))) none-other)
 
-lengths-within : (p : Partitioning) (outer inner rows : ℕ) → lengthsNumber p outer inner rows ≤ 5
+lengths-other : (p : Partitioning) (outer inner rows : ℕ) → Other (lengthsNumber p outer inner rows)
 unfolding lengthsNumber tuplesLength rowsLength
-lengths-within p outer inner rows =
-    first-within (planNumber p) 5 _ (plan-within p)
-    (three-within (not (fitsTuples p outer)) (not (fitsTuples p inner)) (not (fitsRows p rows)) 4 4 4 5
-    (omega arith) (omega arith) (omega arith))
+lengths-other p outer inner rows =
+    first-other (planNumber p) _ (plan-other p)
+    (three-other (not (fitsTuples p outer)) (not (fitsTuples p inner)) (not (fitsRows p rows)) 4 4 4 []
+    (λ e. omega (arith, e)) (λ e. omega (arith, e)) (λ e. omega (arith, e)) none-other)
 
-stores-within : (p : Partitioning) (s : Stores) → storeNumber p s ≤ 5
+stores-other : (p : Partitioning) (s : Stores) → Other (storeNumber p s)
 unfolding storeNumber tuplesUnsound rowsUnsound
-stores-within p s =
-    first-within (openNumber p s) 5 _ (lengths-within p (length (s .outer)) (length (s .inner)) (length (s .rows)))
-    (three-within (not (soundTuples p (s .outer))) (not (soundTuples p (s .inner))) (not (soundRows p (s .rows)))
-    5 5 5 5 (omega arith) (omega arith) (omega arith))
+stores-other p s =
+    first-other (openNumber p s) _ (lengths-other p (length (s .outer)) (length (s .inner)) (length (s .rows)))
+    (three-other (not (soundTuples p (s .outer))) (not (soundTuples p (s .inner))) (not (soundRows p (s .rows)))
+    5 5 5 [] (λ e. omega (arith, e)) (λ e. omega (arith, e)) (λ e. omega (arith, e)) none-other)
 
 pub never-thirteen : NeverThirteen
 unfolding repartitionNumber moveNumber
-never-thirteen p new s e =
+never-thirteen p new s =
     let q = withCuts p new in
     let nine = tuplesOverfull p q (s .outer) || tuplesOverfull p q (s .inner) in
     let ten = rowsOverfull p q (s .rows) in
-    let moves : moveNumber p q s ≤ 10 =
-    first-within (refuseIf nine 9) 10 _ (check-within nine 9 10 (omega arith))
-    (first-within (refuseIf ten 10) 10 [] (check-within ten 10 10 (omega arith)) (none-within 10)) in
     let two = not (cover (take (p .count) (numbers new))) in
-    let most : repartitionNumber p new s ≤ 10 =
-    first-within (storeNumber p s) 10 _ (omega (arith, stores-within p s))
-    (first-within (refuseIf two 2) 10 _ (check-within two 2 10 (omega arith))
-    (first-within (moveNumber p q s) 10 [] moves (none-within 10))) in
-    omega arith
+    first-other (storeNumber p s) _ (stores-other p s)
+    (first-other (refuseIf two 2) _ (check-other two 2 (λ e. omega (arith, e)))
+    (first-other (moveNumber p q s) []
+    (first-other (refuseIf nine 9) _ (check-other nine 9 (λ e. omega (arith, e)))
+    (first-other (refuseIf ten 10) [] (check-other ten 10 (λ e. omega (arith, e))) none-other))
+    none-other))
 
 -- ---- what each partition holds after it
 
@@ -195,3 +199,14 @@ empty-kept p p′ new s s′ a called passed outer inner rows = decide (a .numbe
         let third = rows-kept p new (s .rows) (s′ .rows) (m .rows) t (r .rows) rows in
         λ k. record { outer = first k; inner = second k; rows = third k }
     decide (suc n) z = called .refused (λ e. absurd (omega arith)) .0
+
+-- ---- the plan that it returns has the minimum that the plan had
+
+pub minimum-kept : MinimumKept
+unfolding withCuts
+minimum-kept p p′ new s s′ a r = by-number (a .number) refl
+  where
+    by-number : (n : ℕ) → a .number ≡ n → p′ .minimum ≡ p .minimum
+    by-number zero e = ap (λ (q : Partitioning). q .minimum) (r .accepted e .0)
+    by-number (suc n) e =
+        ap (λ (q : Partitioning). q .minimum) (r .refused (λ z. omega (arith, z, e)) .1)

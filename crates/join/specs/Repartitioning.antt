@@ -56,3 +56,9 @@ EmptyKept =
     (p p′ : Partitioning) (new : List Chronon) (s s′ : Stores) (a : Answer) → Repartitioned p new s s′ a p′
     → storeNumber p s ≡ 0 → storedTuples p (s .outer) ≡ [] → storedTuples p (s .inner) ≡ []
     → storedRows p (s .rows) ≡ [] → s′ ≡ s
+
+-- "A recut keeps the minimum." (document 02, (f))
+abbrev pub MinimumKept : Type 0
+MinimumKept =
+    (p p′ : Partitioning) (new : List Chronon) (s s′ : Stores) (a : Answer) → Repartitioned p new s s′ a p′
+    → p′ .minimum ≡ p .minimum

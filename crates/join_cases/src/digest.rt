@@ -63,7 +63,7 @@ pub(crate) fn plan(p: Partitioning) -> u64 {
         all = mix(all, plans::cut(p, i as u64));
         i += 1;
     }
-    mix(mix(all, p.tuples), p.rows)
+    mix(mix(mix(all, p.tuples), p.rows), p.minimum)
 }
 
 // 1 for a place that is counted and has no label, or is not counted and has one; else 0.

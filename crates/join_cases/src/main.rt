@@ -1,6 +1,6 @@
 // Outside cases for the crates join and requirements: seeded lists of calls on small walls, each answer and every word
 // left taken into a digest, which tests/join_cases_expected.py works out in another way. A line for each list: its
-// seed, its digest and how many of its calls were accepted; then a line for each number from 0 to 17: how often it was
+// seed, its digest and how many of its calls were accepted; then a line for each number from 0 to 18: how often it was
 // answered (13, 15 and 16 by no call).
 //
 // All functions answer for any words: what would be too large is made small first (total), and a word past the end of a
@@ -11,6 +11,7 @@ mod digest;
 mod draws;
 mod foreseen;
 mod meddling;
+mod minima;
 mod plans;
 mod report;
 mod stores;
@@ -21,7 +22,7 @@ mod walls;
 
 use walls::Tally;
 
-const LATE: u64 = 258;
+const LATE: u64 = 4_972;
 
 // One list.
 fn one_list(seed: u64, tally: Tally) -> Tally {
@@ -33,12 +34,12 @@ fn one_list(seed: u64, tally: Tally) -> Tally {
     end.tally
 }
 
-// The lists of the seeds from 1 to 150, and one more, in which a sweep is refused with 10 by the rows of a tuple that
+// The lists of the seeds from 351 to 600, and one more, in which a sweep is refused with 10 by the rows of a tuple that
 // comes from above and starts at the lane's last minute.
 fn all_lists() -> Tally {
     let mut tally = walls::none();
-    let mut seed: u64 = 1;
-    while seed <= 150 {
+    let mut seed: u64 = 351;
+    while seed <= 600 {
         tally = one_list(seed, tally);
         seed += 1;
     }
@@ -47,7 +48,7 @@ fn all_lists() -> Tally {
 
 fn numbers(times: &[u64]) {
     let mut number: u64 = 0;
-    while number < 18 {
+    while number < 19 {
         report::name(b"number");
         report::number(number);
         report::number(total::word(times, number));

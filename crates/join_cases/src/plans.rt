@@ -1,5 +1,6 @@
 // Plans: drawn ones, legal and small, and what a disturbance makes of one.
 use crate::draws;
+use crate::minima;
 use crate::total;
 use interval::time::Chronon;
 use plan::PLACES;
@@ -58,6 +59,7 @@ pub(crate) fn drawn(seed: u64, d: &[u64], state: u64) -> Partitioning {
             draws::from(d, 2, 1, 2),
             draws::from(d, 2, 1, draws::from(d, 3, 2, 15)),
         ),
+        minimum: minima::drawn(d),
     }
 }
 
@@ -69,6 +71,12 @@ pub(crate) fn either(first: bool, p: Partitioning, q: Partitioning) -> Partition
 pub(crate) fn with_rows(p: Partitioning, rows: u64) -> Partitioning {
     let mut q = p;
     q.rows = rows;
+    q
+}
+
+pub(crate) fn with_minimum(p: Partitioning, minimum: u64) -> Partitioning {
+    let mut q = p;
+    q.minimum = minimum;
     q
 }
 
@@ -89,7 +97,7 @@ fn with_cut(p: Partitioning, i: u64, minute: u64) -> Partitioning {
 }
 
 // How many kinds of disturbance there are.
-pub(crate) const DISTURBANCES: u64 = 16;
+const DISTURBANCES: u64 = 16;
 
 // The plan with a last minute disturbed, by the kinds from 3 to 7.
 fn bent_cut(p: Partitioning, kind: u64, w: u64) -> Partitioning {
@@ -133,6 +141,7 @@ fn disturbed(p: Partitioning, kind: u64, w: u64) -> Partitioning {
         lasts,
         tuples: bent_capacity(p.tuples, 512, kind, 8, 9, 12, 14),
         rows: bent_capacity(p.rows, 4_096, kind, 10, 11, 13, 15),
+        minimum: p.minimum,
     }
 }
 
@@ -174,9 +183,15 @@ pub(crate) fn new_cuts(p: Partitioning, d: &[u64], minute: u64) -> [Chronon; PLA
     lasts
 }
 
-// The plan of a step. Half of those that are disturbed are disturbed once more, in a capacity.
-pub(crate) fn of_step(p: Partitioning, kind: u64, d: &[u64]) -> Partitioning {
+// Whether the plan of a step is disturbed in its count, its last minutes or a capacity.
+pub(crate) fn is_disturbed(d: &[u64]) -> bool {
+    draws::pick(d, 14, 256) < DISTURBANCES
+}
+
+// The plan of a step, but for its minimum. Half of those that are disturbed are disturbed once more, in a capacity.
+pub(crate) fn of_step(p: Partitioning, d: &[u64]) -> Partitioning {
+    let kind = draws::pick(d, 14, 256);
     let w = total::word(d, 15);
     let twice = disturbed(disturbed(p, kind, w), draws::from(d, 24, 8, 16), w);
-    either(kind < DISTURBANCES, twice, p)
+    either(is_disturbed(d), twice, p)
 }

@@ -25,6 +25,11 @@ pub(crate) fn less(a: u64) -> u64 {
     if a < 1 { 0 } else { a - 1 }
 }
 
+// How far a number lies above another; 0 if it does not.
+pub(crate) fn gap(low: u64, high: u64) -> u64 {
+    if high < low { 0 } else { high - low }
+}
+
 pub(crate) fn times(a: u64, b: u64) -> u64 {
     (a % 1_000_003) * (b % 1_000_003)
 }

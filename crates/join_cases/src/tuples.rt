@@ -51,15 +51,30 @@ fn drawn_minute(p: Partitioning, d: &[u64], at: u64) -> u64 {
     )
 }
 
-// A tuple by the numbers from `at` on; its minutes are set in order but once in sixteen.
+// The last minute of a span that lasts the minimum, or one minute less or more; at least its first, and in the
+// calendar.
+fn lasting(minimum: u64, first: u64, w: u64) -> u64 {
+    let end = total::less(total::less(total::plus(first, total::plus(minimum, w % 3))));
+    let last = total::either(end < first, first, end);
+    total::either(last < 99_999_999, last, 99_999_999)
+}
+
+// A tuple by the numbers from `at` on. Once in sixteen its minutes are as drawn, in any order; some last about the
+// minimum, and most do where that is the largest; else they are set in order.
 fn drawn(p: Partitioning, d: &[u64], at: u64) -> Tuple {
     let l = label(draws::pick(d, at, 16));
     let i = item(draws::pick(d, total::plus(at, 1), 16));
     let a = drawn_minute(p, d, total::plus(at, 2));
     let b = drawn_minute(p, d, total::plus(at, 4));
-    let as_drawn = draws::pick(d, total::plus(at, 6), 16) == 0;
+    let shape = draws::pick(d, total::plus(at, 6), 16);
+    let as_drawn = shape == 0;
+    let w = total::word(d, total::plus(at, 6)) / 16;
     let first = total::either(b < a, b, a);
-    let last = total::either(b < a, a, b);
+    let last = total::either(
+        shape < total::either(p.minimum < 1_440, 4, 12),
+        lasting(p.minimum, first, w),
+        total::either(b < a, a, b),
+    );
     tuple(
         l,
         i,

@@ -8,6 +8,7 @@ use crate::digest::Order;
 use crate::draws;
 use crate::foreseen;
 use crate::meddling;
+use crate::minima;
 use crate::plans;
 use crate::stores;
 use crate::stores::Stores;
@@ -18,13 +19,13 @@ use crate::tuples::Pool;
 use interval::tuple::Tuple;
 use plan::Partitioning;
 
-// How often each number from 0 to 17 was answered.
+// How often each number from 0 to 18 was answered.
 pub(crate) struct Tally {
-    pub(crate) times: [u64; 18],
+    pub(crate) times: [u64; 19],
 }
 
 pub(crate) fn none() -> Tally {
-    let times = [0u64; 18];
+    let times = [0u64; 19];
     Tally { times }
 }
 
@@ -57,15 +58,15 @@ fn bent_lengths(l: Lengths, kind: u64) -> Lengths {
     }
 }
 
-// Whether a step is disturbed: an illegal plan, a wrong length, or a word meddled with.
+// Whether a step is disturbed: an illegal plan, another minimum, a wrong length, or a word meddled with.
 fn is_disturbed(d: &[u64]) -> bool {
-    let plan = draws::pick(d, 14, 256) < plans::DISTURBANCES;
+    let plan = plans::is_disturbed(d) | minima::is_other(d);
     let length = draws::pick(d, 22, 180) < 6;
     plan | length | meddling::is_met(d)
 }
 
 // The call of a step, whose tuple is drawn.
-fn drawn_call(p: Partitioning, kind: u64, d: &[u64], tuple: Tuple) -> Call {
+fn drawn_call(p: Partitioning, kind: u64, d: &[u64], tuple: Tuple, s: Stores) -> Call {
     let base = calls::base(p, kind, d);
     let valid = tuple.valid;
     let last = valid.last;
@@ -73,7 +74,7 @@ fn drawn_call(p: Partitioning, kind: u64, d: &[u64], tuple: Tuple) -> Call {
     Call {
         kind,
         base,
-        plan: plans::of_step(base, draws::pick(d, 14, 256), d),
+        plan: minima::of_step(p, plans::of_step(base, d), d, s),
         lengths: bent_lengths(calls::lengths_of(base), draws::pick(d, 22, 180)),
         side: draws::pick(d, 1, 2),
         tuple,
@@ -85,7 +86,7 @@ fn drawn_call(p: Partitioning, kind: u64, d: &[u64], tuple: Tuple) -> Call {
 fn drawn_step(p: Partitioning, kind: u64, d: &[u64], pool: Pool, s: Stores) -> Call {
     let own = stores::side(s, draws::pick(d, 1, 2));
     let tuple = tuples::of_step(p, kind, d, pool, &own);
-    drawn_call(p, kind, d, tuple)
+    drawn_call(p, kind, d, tuple, s)
 }
 
 // Which order is free in what a call left: that of the tuples after an accepted repartition, that of the rows after an
@@ -193,7 +194,7 @@ fn taken(wall: Wall, state: u64, d: &[u64], pool: Pool) -> Wall {
 
 // Draws the numbers of a step, and takes it.
 fn step(wall: Wall, pool: Pool) -> Wall {
-    let mut d = [0u64; 35];
+    let mut d = [0u64; 37];
     let state = draws::fill(wall.state, &mut d);
     taken(wall, state, &d, pool)
 }

@@ -1,19 +1,22 @@
 -- Laws of the layout: an answer's three or four words; last minutes as words and back; the plan that words say, and
--- after last minutes are put into them; that nothing of a plan's words is lost.
+-- after last minutes are put into them, which keeps its minimum; that nothing of a plan's words is lost.
 -- Assumes nothing.
-use mathlib.Core.List.{List, [], _∷_, _++_}
+use mathlib.Core.List.{List, [], _∷_, _++_, append-assoc}
 use mathlib.Core.Path.{_≡_, refl, sym, _∙_, ap}
 use Prim.Native.Nat.{ℕ, _+_, _≤_, _<_}
 use native.Mathlib.Omega.{arith}
 use lib.Dec.{eqb}
 use lib.ListN.{length, getD, take, drop, set, length-take, length-drop, length-append, length-map, List·getD-map}
-use lib.Seq.{take-all, getD-take, getD-drop}
+use lib.ListN.{take-append-drop, drop-of-length-le}
+use lib.Seq.{take-all, take-at, drop-cons, getD-take, getD-drop, getD-append-add}
 use borrow.Author.Tests.{eq-eqb, ne-eqb}
 use Rattle.lists.proofs.Choice.{pick-true, pick-false}
+use Rattle.lists.proofs.Copies.{Copied}
 use Rattle.interval.specs.declared.time.Chronon.{Chronon}
 use Rattle.plan.specs.Plan.{mostPartitions, numbers, withCuts}
 use Rattle.plan.specs.declared.Partitioning.{Partitioning}
-use Rattle.layout.specs.Layout.{planHead, planWords, answerWords, requirementsWords, minutes, planIn, told}
+use Rattle.layout.specs.Layout.{planHead, minimumPlace, planWords, answerWords, requirementsWords, minutes}
+use Rattle.layout.specs.Layout.{planIn, told}
 
 -- ---- an answer's words
 
@@ -71,7 +74,13 @@ minutes-whole ws e = ap minutes (take-all mostPartitions ws (omega arith))
 
 -- the plan with these last minutes, and the rest from words
 abbrev pub withLasts : List ℕ → List Chronon → Partitioning
-withLasts ws lasts = record { count = getD ws 0 0; lasts = lasts; tuples = getD ws 1 0; rows = getD ws 2 0 }
+withLasts ws lasts = record {
+  count = getD ws 0 0;
+  lasts = lasts;
+  tuples = getD ws 1 0;
+  rows = getD ws 2 0;
+  minimum = getD ws minimumPlace 0;
+}
 
 -- it is what the words say, where the last minutes are theirs
 pub plan-said : (ws : List ℕ) (lasts : List Chronon) → lasts ≡ minutes (take mostPartitions (drop planHead ws))
@@ -79,21 +88,42 @@ pub plan-said : (ws : List ℕ) (lasts : List Chronon) → lasts ≡ minutes (ta
 unfolding planIn
 plan-said ws lasts e = ap (withLasts ws) e
 
--- and what they say once its last minutes are put into them
+-- the words once last minutes are put into them: those before these and those after, the minimum, are as they were
+abbrev pub putLasts : List ℕ → List Chronon → List ℕ
+putLasts ws lasts = take planHead ws ++ (numbers lasts ++ drop minimumPlace ws)
+
+-- all are copied
+pub put-all : (ws plan : List ℕ) (lasts : List Chronon) (i : ℕ) → length lasts ≡ mostPartitions → mostPartitions ≤ i
+    → Copied ws planHead (numbers lasts) i plan → plan ≡ putLasts ws lasts
+put-all ws plan lasts i l h s =
+    let many : length (numbers lasts) ≡ mostPartitions = length-map lasts (λ (m : Chronon). m .0) ∙ l in
+    let end : planHead + i ≡ minimumPlace = omega (arith, many, s .upto) in
+    s .holds
+    ∙ ap (λ (k : ℕ). (take planHead ws ++ take i (numbers lasts)) ++ drop k ws) end
+    ∙ ap (λ (r : List ℕ). (take planHead ws ++ r) ++ drop minimumPlace ws) (take-all i (numbers lasts) (omega arith))
+    ∙ append-assoc (take planHead ws) (numbers lasts) (drop minimumPlace ws)
+
+-- and the plan that they say: it has these last minutes, and the lane count, the capacities and the minimum of before
 pub plan-put : (ws : List ℕ) (lasts : List Chronon) → length ws ≡ planWords → length lasts ≡ mostPartitions
-    → planIn (take planHead ws ++ numbers lasts) ≡ withLasts ws lasts
+    → planIn (putLasts ws lasts) ≡ withLasts ws lasts
 unfolding planIn
 plan-put [] lasts e l = absurd (omega arith)
 plan-put (a ∷ []) lasts e l = absurd (omega arith)
 plan-put (a ∷ (b ∷ [])) lasts e l = absurd (omega arith)
 plan-put (a ∷ (b ∷ (c ∷ ws))) lasts e l =
-    let put : minutes (take mostPartitions (numbers lasts)) ≡ lasts =
-    ap minutes (take-all mostPartitions (numbers lasts) (rw length-map (omega arith))) ∙ minutes-of-numbers lasts in
-    ap (λ (r : List Chronon). withLasts (a ∷ (b ∷ (c ∷ ws))) r) put
+    let after = drop mostPartitions ws in
+    let many : length (numbers lasts) ≡ mostPartitions = length-map lasts (λ (m : Chronon). m .0) ∙ l in
+    let put : minutes (take mostPartitions (numbers lasts ++ after)) ≡ lasts =
+    ap minutes (take-at (numbers lasts) after mostPartitions many) ∙ minutes-of-numbers lasts in
+    let kept : getD (numbers lasts ++ after) mostPartitions 0 ≡ getD ws mostPartitions 0 =
+    ap (λ (k : ℕ). getD (numbers lasts ++ after) k 0) (omega (arith, many))
+    ∙ getD-append-add (numbers lasts) after 0 0
+    ∙ getD-drop mostPartitions ws 0 0 in
+    λ k. record { count = a; lasts = put k; tuples = b; rows = c; minimum = kept k }
 
 -- the words of a plan, and that nothing of them is lost
 abbrev pub wordsIn : Partitioning → List ℕ
-wordsIn p = p .count ∷ (p .tuples ∷ (p .rows ∷ numbers (p .lasts)))
+wordsIn p = p .count ∷ (p .tuples ∷ (p .rows ∷ (numbers (p .lasts) ++ (p .minimum ∷ []))))
 
 pub plan-words : (ws : List ℕ) → length ws ≡ planWords → wordsIn (planIn ws) ≡ ws
 unfolding planIn
@@ -101,8 +131,15 @@ plan-words [] e = absurd (omega arith)
 plan-words (a ∷ []) e = absurd (omega arith)
 plan-words (a ∷ (b ∷ [])) e = absurd (omega arith)
 plan-words (a ∷ (b ∷ (c ∷ ws))) e =
+    let last : getD ws mostPartitions 0 ∷ [] ≡ drop mostPartitions ws =
+    sym
+    (drop-cons ws mostPartitions 0 (omega arith)
+    ∙ ap (λ (r : List ℕ). getD ws mostPartitions 0 ∷ r)
+    (drop-of-length-le ws {i = mostPartitions + 1} (omega arith))) in
     ap (λ (r : List ℕ). a ∷ (b ∷ (c ∷ r)))
-    (numbers-of-minutes (take mostPartitions ws) ∙ take-all mostPartitions ws (omega arith))
+    (ap (λ (r : List ℕ). r ++ (getD ws mostPartitions 0 ∷ [])) (numbers-of-minutes (take mostPartitions ws))
+    ∙ ap (λ (r : List ℕ). take mostPartitions ws ++ r) last
+    ∙ take-append-drop mostPartitions ws)
 
 pub plan-words-whole : (ws vs : List ℕ) → length ws ≡ planWords → length vs ≡ planWords → planIn ws ≡ planIn vs
     → ws ≡ vs
@@ -112,13 +149,13 @@ plan-words-whole ws vs e f h = sym (plan-words ws e) ∙ ap wordsIn h ∙ plan-w
 
 module _ (ws : List ℕ) (e : length ws ≡ planWords) where
   put-back : (lasts : List Chronon) (q : Partitioning) → length lasts ≡ mostPartitions → q ≡ withLasts ws lasts
-      → planIn (take planHead ws ++ numbers (q .lasts)) ≡ q
+      → planIn (putLasts ws (q .lasts)) ≡ q
   put-back lasts q l h =
-      ap (λ (r : Partitioning). planIn (take planHead ws ++ numbers (r .lasts))) h ∙ plan-put ws lasts e l ∙ sym h
+      ap (λ (r : Partitioning). planIn (putLasts ws (r .lasts))) h ∙ plan-put ws lasts e l ∙ sym h
 
   pub plan-put-cuts : (new : List Chronon) (q : Partitioning) → length new ≡ mostPartitions
       → q ≡ withCuts (planIn ws) new
-      → planIn (take planHead ws ++ numbers (q .lasts)) ≡ q
+      → planIn (putLasts ws (q .lasts)) ≡ q
   unfolding withCuts planIn
   plan-put-cuts new q l h =
       let n = getD ws 0 0 in

@@ -13,12 +13,15 @@ use Rattle.rows.specs.declared.Side.{Side}
 use Rattle.rows.specs.declared.Side.the-variants.{Outer, Inner}
 use Rattle.checks.specs.declared.Answer.{Answer}
 
--- the words of a plan, 67: before its last minutes, and with them
+-- the words of a plan, 68: before its last minutes; and before its minimum, which is the last word
 abbrev pub planHead : ℕ
 planHead = 3
 
+abbrev pub minimumPlace : ℕ
+minimumPlace = planHead + mostPartitions
+
 abbrev pub planWords : ℕ
-planWords = planHead + mostPartitions
+planWords = minimumPlace + 1
 
 -- the words of an answer: of most calls, and of what a sweep requires
 abbrev pub answerWords : ℕ
@@ -31,13 +34,14 @@ requirementsWords = 4
 abbrev pub minutes : List ℕ → List Chronon
 minutes ws = map (λ (m : ℕ). record { 0 = m }) ws
 
--- a plan: lane count, tuple capacity, row capacity, 64 last minutes
+-- a plan: lane count, tuple capacity, row capacity, 64 last minutes, minimum
 unfoldable pub planIn : List ℕ → Partitioning
 planIn ws = record {
   count = getD ws 0 0;
   lasts = minutes (take mostPartitions (drop planHead ws));
   tuples = getD ws 1 0;
   rows = getD ws 2 0;
+  minimum = getD ws minimumPlace 0;
 }
 
 -- an answer: number, first count, second count
@@ -64,8 +68,8 @@ abbrev pub refusal : ℕ → Answer
 refusal n = record { number = n; changed = 0; examined = 0 }
 
 -- the number for the lengths of what a call is lent beside the stores (0: they are right). A plan of another length
--- says nothing: 4. Where another length is wrong, the plan's own numbers, 1 to 3, come before its 4, as in document
--- 01's table.
+-- says nothing: 4. Where another length is wrong, the plan's own numbers, 1 to 3 and 18, come before its 4, as in
+-- document 01's table.
 unfoldable pub lentNumber : List ℕ → Bool → ℕ
 lentNumber plan right =
     pick (eqb (length plan) planWords) (pick right 0 (firstOf (planNumber (planIn plan) ∷ (4 ∷ [])))) 4

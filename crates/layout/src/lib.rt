@@ -8,7 +8,8 @@ ghost use Prim.Native.Nat.{_+_, _≤_};
 ghost use lib.ListN.{length, take, drop};
 ghost use Rattle.interval.specs.Tuple.{tuple};
 ghost use Rattle.plan.specs.Plan.{mostPartitions, numbers};
-ghost use Rattle.layout.specs.Layout.{planHead, planWords, minutes, planIn, wordsOf, told, sideOf, lentNumber};
+ghost use Rattle.layout.specs.Layout.{planHead, minimumPlace, planWords, minutes, planIn, wordsOf, told};
+ghost use Rattle.layout.specs.Layout.{sideOf, lentNumber};
 use checks::Answer;
 use interval::time::Chronon;
 use interval::time::Interval;
@@ -17,10 +18,12 @@ use plan::PLACES;
 use plan::Partitioning;
 use rows::Side;
 
-// The words of a plan before its last minutes, and with them.
+// The words of a plan before its last minutes, before its minimum, and all.
 const PLAN_HEAD: usize = 3;
 
-const PLAN_WORDS: usize = PLAN_HEAD + PLACES;
+const MINIMUM_PLACE: usize = PLAN_HEAD + PLACES;
+
+const PLAN_WORDS: usize = MINIMUM_PLACE + 1;
 
 // The words of an answer: of most calls, and of what a sweep requires.
 pub const ANSWER_WORDS: usize = 3;
@@ -52,6 +55,7 @@ pub fn plan_in(words: &[u64]) -> Partitioning
         lasts,
         tuples: words[1],
         rows: words[2],
+        minimum: words[MINIMUM_PLACE],
     }
 }
 
@@ -122,10 +126,11 @@ pub fn lent_number(plan: &[u64], right: bool) -> u64
     4
 }
 
-// Puts last minutes into the words of a plan.
+// Puts last minutes into the words of a plan; every other word is kept.
 pub fn put_lasts(lasts: [Chronon; PLACES], plan: &mut [u64])
     requires { ⌜ length (now plan) ≡ planWords ⌝ }
-    ensures { λ _. ⌜ now (plan .exit) ≡ take planHead (now (plan .entry)) ++ numbers lasts ⌝ }
+    ensures { λ _. ⌜ now (plan .exit)
+        ≡ take planHead (now (plan .entry)) ++ (numbers lasts ++ drop minimumPlace (now (plan .entry))) ⌝ }
 {
     let mut place: usize = 0;
     while place < PLACES {

@@ -11,12 +11,12 @@ use Rattle.label.specs.Label.{rank, isLetter, isLabel, labelNumber, capital, ca
 use Rattle.label.specs.Label.{fieldLabelNumber, lettersOf}
 use Rattle.interval.specs.Tuple.{tuple}
 use Rattle.lines.specs.Fields.{isNumber, valueOf, digitsOf}
-use Rattle.lines.specs.Line.{laneOf, changeOf, worded, formOf, lineOf, lineNumber, printed}
+use Rattle.lines.specs.Line.{laneOf, leastOf, changeOf, worded, formOf, lineOf, lineNumber, printed}
 use Rattle.lines.specs.Line.{labelInCapitals, inCapitals}
 use Rattle.lines.specs.declared.Word.{Word}
 use Rattle.lines.specs.declared.Word.the-variants.{DrawIn, DrawOut, SpotIn, SpotOut}
 use Rattle.lines.specs.declared.Line.{Line}
-use Rattle.lines.specs.declared.Line.the-variants.{Lane, Change, Malformed}
+use Rattle.lines.specs.declared.Line.the-variants.{Lane, Least, Change, Malformed}
 
 -- ---- how a case is written
 
@@ -28,9 +28,12 @@ pub record Case : Type 0 where
   pub line : List ℕ
   pub says : Line
 
--- a lane's last minute; a change's word, label number, item, first and last minute
+-- a lane's last minute; the number of a `least` line; a change's word, label number, item, first and last minute
 abbrev lane : String → ℕ → Case
 lane s n = record { line = bytes s; says = Lane (record { 0 = n }) }
+
+abbrev least : String → ℕ → Case
+least s n = record { line = bytes s; says = Least n }
 
 abbrev change : String → Word → ℕ → ℕ → ℕ → ℕ → Case
 change s w l n a b =
@@ -71,6 +74,16 @@ edges =
     ∷ (change "drawout,ZZZZZZZZ,99999999,99999999,99999999" DrawOut 217180147158 99999999 99999999 99999999
     ∷ (change "spotin,Z,1000000,9,3" SpotIn 26 1000000 9 3
     ∷ []))))))
+
+-- document 02, (f): a minimum, of any number; one that is out of range is left to check 18
+abbrev pub leasts : List Case
+leasts =
+    least "least,1" 1
+    ∷ (least "least,0" 0
+    ∷ (least "least,1440" 1440
+    ∷ (least "least,1441" 1441
+    ∷ (least "least,99999999" 99999999
+    ∷ []))))
 
 -- document 02, (a): small letters in a label, one, eight, all or some of them small, and in the longest line
 abbrev pub small : List Case
@@ -118,6 +131,28 @@ lanes =
     ∷ (bad "lanes,1"
     ∷ (bad "lan,1"
     ∷ (bad "drawin,1"
+    ∷ []))))))))))))))))
+
+-- a `least` line: no number, a leading 0, nine digits, a field too few or too many, another word
+abbrev pub leastsRefused : List Case
+leastsRefused =
+    bad "least"
+    ∷ (bad "least,"
+    ∷ (bad "least,00"
+    ∷ (bad "least,01"
+    ∷ (bad "least,-1"
+    ∷ (bad "least, 1"
+    ∷ (bad "least,1 "
+    ∷ (bad "least,1,"
+    ∷ (bad "least,1,2"
+    ∷ (bad "least,AL,1,1,1"
+    ∷ (bad "least,a"
+    ∷ (bad "least,123456789"
+    ∷ (bad "Least,1"
+    ∷ (bad "LEAST,1"
+    ∷ (bad "leas,1"
+    ∷ (bad "leasts,1"
+    ∷ (bad "least1"
     ∷ []))))))))))))))))
 
 -- a change: no label, nine letters, a number that is none, a field too few or too many, another word
@@ -173,10 +208,10 @@ abbrev pub lengths : List Case
 lengths = refused [] ∷ (bad "," ∷ (refused (long 75) ∷ (refused (long 76) ∷ [])))
 
 abbrev pub accepted : List Case
-accepted = example ++ edges
+accepted = example ++ (edges ++ leasts)
 
 abbrev pub refusedLines : List Case
-refusedLines = lanes ++ (changes ++ (smallRefused ++ lengths))
+refusedLines = lanes ++ (leastsRefused ++ (changes ++ (smallRefused ++ lengths)))
 
 abbrev pub table : List Case
 table = accepted ++ (small ++ refusedLines)
@@ -186,7 +221,7 @@ table = accepted ++ (small ++ refusedLines)
 -- each line says what the table has for it
 pub cases-hold : map (λ (c : Case). lineOf (c .line)) table ≡ map (λ (c : Case). c .says) table
 unfolding isNumber valueOf rank isLetter isLabel labelNumber capital capitals isLabelField fieldLabelNumber
-    laneOf changeOf worded formOf lineOf
+    laneOf leastOf changeOf worded formOf lineOf
 cases-hold = refl
 
 -- an accepted line has the number 0, every other 15

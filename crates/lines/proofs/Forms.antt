@@ -1,6 +1,6 @@
 -- Laws of specs/Line, along the way that a line is read: where the reader answers, its answer is the line's.
--- In order: a lane's last minute; the fields of a change after its third comma, after its second, after its first; the
--- first field of a line is one of the words, and each word's form; the line.
+-- In order: a lane's last minute, and the minutes of a `least` line; the fields of a change after its third comma,
+-- after its second, after its first; the first field of a line is one of the words, and each word's form; the line.
 -- Assumes nothing.
 use mathlib.Core.Bool.{true, false, and-false}
 use mathlib.Core.List.{List, [], _∷_}
@@ -14,12 +14,12 @@ use Rattle.lists.proofs.Choice.{pick-true, pick-false}
 use Rattle.label.specs.Label.{isLabelField, fieldLabelNumber}
 use Rattle.interval.specs.Tuple.{tuple}
 use Rattle.lines.specs.Fields.{isComma, fieldsOf, sameBytes, isNumber, valueOf}
-use Rattle.lines.specs.Line.{lineLength, laneBytes, bytesOf, laneOf, changeOf, changeForm, numbersForm, spanForm}
-use Rattle.lines.specs.Line.{worded, formOf, lineOf}
+use Rattle.lines.specs.Line.{lineLength, laneBytes, leastBytes, bytesOf, laneOf, leastOf, changeOf, changeForm}
+use Rattle.lines.specs.Line.{numbersForm, spanForm, worded, formOf, lineOf}
 use Rattle.lines.specs.declared.Word.{Word}
 use Rattle.lines.specs.declared.Word.the-variants.{DrawIn, DrawOut, SpotIn, SpotOut}
 use Rattle.lines.specs.declared.Line.{Line}
-use Rattle.lines.specs.declared.Line.the-variants.{Lane, Change, Malformed}
+use Rattle.lines.specs.declared.Line.the-variants.{Lane, Least, Change, Malformed}
 use Rattle.lines.proofs.Fields.{cutBefore, cutAfter, fields-cut, fields-none, last-field, same-bytes-is}
 use Rattle.lines.proofs.Numbers.{comma-no-number}
 
@@ -32,6 +32,16 @@ lane-refused bs e = rw e
 pub lane-value : (bs : List ℕ) (n : ℕ) → (isNumber bs ≡ true) × (n ≡ valueOf bs) → Lane (record { 0 = n }) ≡ laneOf bs
 unfolding laneOf
 lane-value bs n p = rw (p .0, p .1)
+
+-- ---- the minutes of a `least` line
+
+pub least-refused : (bs : List ℕ) → isNumber bs ≡ false → Malformed ≡ leastOf bs
+unfolding leastOf
+least-refused bs e = rw e
+
+pub least-value : (bs : List ℕ) (n : ℕ) → (isNumber bs ≡ true) × (n ≡ valueOf bs) → Least n ≡ leastOf bs
+unfolding leastOf
+least-value bs n p = rw (p .0, p .1)
 
 -- ---- after a change's third comma, the first comma of the rest at place k
 
@@ -164,6 +174,22 @@ form-lane w bs e =
     comma : any isComma bs ≡ true → formOf (laneBytes ∷ (bs ∷ [])) ≡ Malformed
     comma t = rw (comma-no-number bs t)
 
+-- `least`: so is what stands after its comma
+form-least : (w bs : List ℕ) → sameBytes w leastBytes ≡ true → formOf (w ∷ fieldsOf bs) ≡ leastOf bs
+unfolding formOf worded leastOf
+form-least w bs e =
+    ap (λ (v : List ℕ). formOf (v ∷ fieldsOf bs)) (same-bytes-is w leastBytes e)
+    ∙ last-field (λ fs. formOf (leastBytes ∷ fs)) Malformed bs two comma
+  where
+    two : (f g : List ℕ) (more : List (List ℕ)) → formOf (leastBytes ∷ (f ∷ (g ∷ more))) ≡ Malformed
+    two f g [] = refl
+    two f g (a ∷ []) = refl
+    two f g (a ∷ (b ∷ [])) = refl
+    two f g (a ∷ (b ∷ (c ∷ more))) = refl
+
+    comma : any isComma bs ≡ true → formOf (leastBytes ∷ (bs ∷ [])) ≡ Malformed
+    comma t = rw (comma-no-number bs t)
+
 -- a change's word
 worded-word : (v : Word) (f : Word → Line) → worded (bytesOf v) f ≡ f v
 unfolding worded
@@ -178,10 +204,18 @@ not-lane DrawOut = refl
 not-lane SpotIn = refl
 not-lane SpotOut = refl
 
+not-least : (v : Word) → sameBytes (bytesOf v) leastBytes ≡ false
+not-least DrawIn = refl
+not-least DrawOut = refl
+not-least SpotIn = refl
+not-least SpotOut = refl
+
 word-form : (v : Word) (fs : List (List ℕ)) → formOf (bytesOf v ∷ fs) ≡ changeForm v fs
 unfolding formOf changeForm
 word-form v [] = refl
-word-form v (l ∷ []) = pick-false (sameBytes (bytesOf v) laneBytes) (laneOf l) Malformed (not-lane v)
+word-form v (l ∷ []) =
+    pick-false (sameBytes (bytesOf v) laneBytes) (laneOf l) _ (not-lane v)
+    ∙ pick-false (sameBytes (bytesOf v) leastBytes) (leastOf l) Malformed (not-least v)
 word-form v (l ∷ (n ∷ [])) = refl
 word-form v (l ∷ (n ∷ (a ∷ []))) = refl
 word-form v (l ∷ (n ∷ (a ∷ (b ∷ [])))) = worded-word v (λ u. changeOf u l n a b)
@@ -190,6 +224,7 @@ word-form v (l ∷ (n ∷ (a ∷ (b ∷ (c ∷ more))))) = refl
 -- none of the words
 pub record NoWord (w : List ℕ) : Type 0 where
   pub lane : sameBytes w laneBytes ≡ false
+  pub least : sameBytes w leastBytes ≡ false
   pub drawin : sameBytes w (bytesOf DrawIn) ≡ false
   pub drawout : sameBytes w (bytesOf DrawOut) ≡ false
   pub spotin : sameBytes w (bytesOf SpotIn) ≡ false
@@ -198,7 +233,7 @@ pub record NoWord (w : List ℕ) : Type 0 where
 no-form : (w : List ℕ) (fs : List (List ℕ)) → NoWord w → formOf (w ∷ fs) ≡ Malformed
 unfolding formOf worded
 no-form w [] z = refl
-no-form w (l ∷ []) z = rw (z .lane)
+no-form w (l ∷ []) z = rw (z .lane, z .least)
 no-form w (l ∷ (n ∷ [])) z = refl
 no-form w (l ∷ (n ∷ (a ∷ []))) z = refl
 no-form w (l ∷ (n ∷ (a ∷ (b ∷ [])))) z = rw (z .drawin, z .drawout, z .spotin, z .spotout)
@@ -225,6 +260,10 @@ module _ (bs : List ℕ) (short : length bs ≤ lineLength) (k : ℕ) (e : k ≡
   pub line-lane : (r : Line) → k < length bs → sameBytes (cutBefore k bs) laneBytes ≡ true → r ≡ laneOf (cutAfter k bs)
       → r ≡ lineOf bs
   line-lane r h t a = a ∙ sym (cut h ∙ form-lane (cutBefore k bs) (cutAfter k bs) t)
+
+  pub line-least : (r : Line) → k < length bs → sameBytes (cutBefore k bs) leastBytes ≡ true
+      → r ≡ leastOf (cutAfter k bs) → r ≡ lineOf bs
+  line-least r h t a = a ∙ sym (cut h ∙ form-least (cutBefore k bs) (cutAfter k bs) t)
 
   pub line-change : (r : Line) (v : Word) → k < length bs → sameBytes (cutBefore k bs) (bytesOf v) ≡ true
       → r ≡ changeForm v (fieldsOf (cutAfter k bs)) → r ≡ lineOf bs

@@ -1,5 +1,5 @@
 -- A line and its value: the format is unambiguous but for the case of the label.
--- In order: the shape of a line that is not refused, a lane's or a change's; printing its value gives the line back
+-- In order: the shape of a line that is not refused, of one of three forms; printing its value gives the line back
 -- with its label in capitals (print-back), so a line without small letters there (print-same), and two lines with one
 -- value differ at most in the case of the label (line-unique); the bounds of what a line gives; how long a line is at
 -- most, which leaves the limit of 80 bytes nothing to refuse (limit-idle); a line reads as it does with its label in
@@ -25,12 +25,12 @@ use Rattle.interval.specs.Tuple.{from, to}
 use Rattle.interval.specs.declared.time.Chronon.{Chronon}
 use Rattle.interval.specs.declared.tuple.Tuple.{Tuple}
 use Rattle.lines.specs.Fields.{comma, fieldsOf, joined, sameBytes, mostDigits, isNumber, valueOf}
-use Rattle.lines.specs.Line.{lineLength, laneBytes, bytesOf, laneOf, tupleRead, changeOf, worded, formOf}
-use Rattle.lines.specs.Line.{lineOf, lineNumber, printed, labelInCapitals, inCapitals}
+use Rattle.lines.specs.Line.{lineLength, laneBytes, leastBytes, bytesOf, laneOf, leastOf, tupleRead, changeOf}
+use Rattle.lines.specs.Line.{worded, formOf, lineOf, lineNumber, printed, labelInCapitals, inCapitals}
 use Rattle.lines.specs.declared.Word.{Word}
 use Rattle.lines.specs.declared.Word.the-variants.{DrawIn, DrawOut, SpotIn, SpotOut}
 use Rattle.lines.specs.declared.Line.{Line}
-use Rattle.lines.specs.declared.Line.the-variants.{Lane, Change, Malformed}
+use Rattle.lines.specs.declared.Line.the-variants.{Lane, Least, Change, Malformed}
 use Rattle.lines.proofs.Fields.{Some, fields-some, join-fields, plain, fields-plain, fields-joined}
 use Rattle.lines.proofs.Fields.{comma-capitals, same-bytes-is}
 use Rattle.lines.proofs.Numbers.{number-parts, digits-of-number, value-most}
@@ -43,6 +43,13 @@ pub record LaneShape (line : Line) (fs : List (List ℕ)) : Type 0 where
   pub number : isNumber m ≡ true
   pub fields : fs ≡ laneBytes ∷ (m ∷ [])
   pub reads : line ≡ Lane (record { 0 = valueOf m })
+
+-- `least,NUMBER`
+pub record LeastShape (line : Line) (fs : List (List ℕ)) : Type 0 where
+  pub m : List ℕ
+  pub number : isNumber m ≡ true
+  pub fields : fs ≡ leastBytes ∷ (m ∷ [])
+  pub reads : line ≡ Least (valueOf m)
 
 -- a word, then `,LABEL,NUMBER,FIRST,LAST`
 pub record ChangeShape (line : Line) (fs : List (List ℕ)) : Type 0 where
@@ -59,17 +66,34 @@ pub record ChangeShape (line : Line) (fs : List (List ℕ)) : Type 0 where
   pub reads : line ≡ Change word (tupleRead l n a b)
 
 abbrev pub Shape : Line → List (List ℕ) → Type 0
-Shape line fs = (line ≡ Malformed) ⊎ (LaneShape line fs ⊎ ChangeShape line fs)
+Shape line fs = (line ≡ Malformed) ⊎ (LaneShape line fs ⊎ (LeastShape line fs ⊎ ChangeShape line fs))
 
-lane-shape : (w m : List ℕ) → Shape (pick (sameBytes w laneBytes) (laneOf m) Malformed) (w ∷ (m ∷ []))
-unfolding laneOf
-lane-shape w m = go (sameBytes w laneBytes) (isNumber m) refl refl
+-- of two fields
+two-shape : (w m : List ℕ)
+    → Shape (pick (sameBytes w laneBytes) (laneOf m) (pick (sameBytes w leastBytes) (leastOf m) Malformed))
+    (w ∷ (m ∷ []))
+unfolding laneOf leastOf
+two-shape w m = go (sameBytes w laneBytes) (sameBytes w leastBytes) (isNumber m) refl refl refl
   where
-    go : (s t : Bool) → sameBytes w laneBytes ≡ s → isNumber m ≡ t
-        → Shape (pick s (pick t (Lane (record { 0 = valueOf m })) Malformed) Malformed) (w ∷ (m ∷ []))
-    go false t e f = inl refl
-    go true false e f = inl refl
-    go true true e f =
+    go : (s u t : Bool) → sameBytes w laneBytes ≡ s → sameBytes w leastBytes ≡ u → isNumber m ≡ t
+        → Shape
+        (pick s (pick t (Lane (record { 0 = valueOf m })) Malformed)
+        (pick u (pick t (Least (valueOf m)) Malformed) Malformed))
+        (w ∷ (m ∷ []))
+    go false false t e d f = inl refl
+    go false true false e d f = inl refl
+    go false true true e d f =
+        inr
+        (inr
+        (inl
+        (record {
+          m = m;
+          number = f;
+          fields = ap (λ (v : List ℕ). v ∷ (m ∷ [])) (same-bytes-is w leastBytes d);
+          reads = refl;
+        })))
+    go true u false e d f = inl refl
+    go true u true e d f =
         inr
         (inl
         (record {
@@ -93,6 +117,7 @@ change-shape w v l n a b e = go (isLabelField l && (isNumber n && (isNumber a &&
         let h = and-right (isNumber n) _ g in
         inr
         (inr
+        (inr
         (record {
           word = v;
           l = l;
@@ -105,7 +130,7 @@ change-shape w v l n a b e = go (isLabelField l && (isNumber n && (isNumber a &&
           last = and-right (isNumber a) _ h;
           fields = ap (λ (u : List ℕ). u ∷ (l ∷ (n ∷ (a ∷ (b ∷ []))))) e;
           reads = refl;
-        }))
+        })))
 
 worded-shape : (w l n a b : List ℕ)
     → Shape (worded w (λ v. changeOf v l n a b)) (w ∷ (l ∷ (n ∷ (a ∷ (b ∷ [])))))
@@ -129,7 +154,7 @@ worded-shape w l n a b =
 
 form-shape : (fs : List (List ℕ)) → Shape (formOf fs) fs
 unfolding formOf
-form-shape (w ∷ (m ∷ [])) = lane-shape w m
+form-shape (w ∷ (m ∷ [])) = two-shape w m
 form-shape (w ∷ (l ∷ (n ∷ (a ∷ (b ∷ []))))) = worded-shape w l n a b
 form-shape [] = inl refl
 form-shape (w ∷ []) = inl refl
@@ -137,7 +162,7 @@ form-shape (w ∷ (l ∷ (n ∷ []))) = inl refl
 form-shape (w ∷ (l ∷ (n ∷ (a ∷ [])))) = inl refl
 form-shape (w ∷ (l ∷ (n ∷ (a ∷ (b ∷ (c ∷ more)))))) = inl refl
 
--- a line is malformed, or of one of the two shapes
+-- a line is malformed, or of one of the three shapes
 pub line-shape : (bs : List ℕ) → Shape (lineOf bs) (fieldsOf bs)
 unfolding lineOf
 line-shape bs = go (leb (length bs) lineLength)
@@ -153,6 +178,13 @@ unfolding labelInCapitals
 print-lane line fs s =
     ap printed (s .reads)
     ∙ ap (λ (ds : List ℕ). laneBytes ++ (comma ∷ ds)) (digits-of-number (s .m) (s .number))
+    ∙ rw (s .fields)
+
+print-least : (line : Line) (fs : List (List ℕ)) → LeastShape line fs → printed line ≡ joined (labelInCapitals fs)
+unfolding labelInCapitals
+print-least line fs s =
+    ap printed (s .reads)
+    ∙ ap (λ (ds : List ℕ). leastBytes ++ (comma ∷ ds)) (digits-of-number (s .m) (s .number))
     ∙ rw (s .fields)
 
 print-change : (line : Line) (fs : List (List ℕ)) → ChangeShape line fs → printed line ≡ joined (labelInCapitals fs)
@@ -175,7 +207,9 @@ pub print-back : (bs : List ℕ) → lineNumber (lineOf bs) ≡ 0 → printed (l
 unfolding inCapitals
 print-back bs h =
     ⊎-elim (λ e. absurd (malformed-no (lineOf bs) h e))
-    (⊎-elim (print-lane (lineOf bs) (fieldsOf bs)) (print-change (lineOf bs) (fieldsOf bs))) (line-shape bs)
+    (⊎-elim (print-lane (lineOf bs) (fieldsOf bs))
+    (⊎-elim (print-least (lineOf bs) (fieldsOf bs)) (print-change (lineOf bs) (fieldsOf bs))))
+    (line-shape bs)
 
 -- so a line whose label stands in capitals is given back as it was
 pub print-same : (bs : List ℕ) → lineNumber (lineOf bs) ≡ 0 → labelInCapitals (fieldsOf bs) ≡ fieldsOf bs
@@ -218,7 +252,7 @@ line-unique xs ys h e =
 
 -- a lane's last minute lies in the calendar
 pub line-lane-most : (bs : List ℕ) (m : Chronon) → lineOf bs ≡ Lane m → m .0 ≤ calendarEnd
-line-lane-most bs m e = ⊎-elim none (⊎-elim lane change) (line-shape bs)
+line-lane-most bs m e = ⊎-elim none (⊎-elim lane (⊎-elim least change)) (line-shape bs)
   where
     none : lineOf bs ≡ Malformed → m .0 ≤ calendarEnd
     none f = let z : _≡_ {A = ℕ} 0 1 = cc in absurd (omega arith)
@@ -228,7 +262,28 @@ line-lane-most bs m e = ⊎-elim none (⊎-elim lane change) (line-shape bs)
         let q : m ≡ record { 0 = valueOf (s .m) } = cc (s .reads) in
         omega (arith, ap (λ (x : Chronon). x .0) q, value-most (s .m) (s .number))
 
+    least : LeastShape (lineOf bs) (fieldsOf bs) → m .0 ≤ calendarEnd
+    least s = let z : _≡_ {A = ℕ} 0 1 = cc (s .reads) in absurd (omega arith)
+
     change : ChangeShape (lineOf bs) (fieldsOf bs) → m .0 ≤ calendarEnd
+    change s = let z : _≡_ {A = ℕ} 0 1 = cc (s .reads) in absurd (omega arith)
+
+-- the number of a `least` line has at most eight digits
+pub line-least-most : (bs : List ℕ) (n : ℕ) → lineOf bs ≡ Least n → n ≤ 99999999
+line-least-most bs n e = ⊎-elim none (⊎-elim lane (⊎-elim least change)) (line-shape bs)
+  where
+    none : lineOf bs ≡ Malformed → n ≤ 99999999
+    none f = let z : _≡_ {A = ℕ} 0 1 = cc in absurd (omega arith)
+
+    lane : LaneShape (lineOf bs) (fieldsOf bs) → n ≤ 99999999
+    lane s = let z : _≡_ {A = ℕ} 0 1 = cc (s .reads) in absurd (omega arith)
+
+    least : LeastShape (lineOf bs) (fieldsOf bs) → n ≤ 99999999
+    least s =
+        let q : n ≡ valueOf (s .m) = cc (s .reads) in
+        omega (arith, q, value-most (s .m) (s .number))
+
+    change : ChangeShape (lineOf bs) (fieldsOf bs) → n ≤ 99999999
     change s = let z : _≡_ {A = ℕ} 0 1 = cc (s .reads) in absurd (omega arith)
 
 -- a change's label is a label's number, so check 6 never applies to it; its other numbers have at most eight digits
@@ -245,13 +300,16 @@ label-passes bs h =
     rw (le-ltb (fieldLabelNumber bs) 1 (r .0), le-ltb labelEnd (fieldLabelNumber bs) (r .1))
 
 pub line-change-bounds : (bs : List ℕ) (w : Word) (t : Tuple) → lineOf bs ≡ Change w t → ChangeBounds t
-line-change-bounds bs w t e = ⊎-elim none (⊎-elim lane change) (line-shape bs)
+line-change-bounds bs w t e = ⊎-elim none (⊎-elim lane (⊎-elim least change)) (line-shape bs)
   where
     none : lineOf bs ≡ Malformed → ChangeBounds t
     none f = let z : _≡_ {A = ℕ} 0 1 = cc in absurd (omega arith)
 
     lane : LaneShape (lineOf bs) (fieldsOf bs) → ChangeBounds t
     lane s = let z : _≡_ {A = ℕ} 0 1 = cc (s .reads) in absurd (omega arith)
+
+    least : LeastShape (lineOf bs) (fieldsOf bs) → ChangeBounds t
+    least s = let z : _≡_ {A = ℕ} 0 1 = cc (s .reads) in absurd (omega arith)
 
     change : ChangeShape (lineOf bs) (fieldsOf bs) → ChangeBounds t
     change s =
@@ -276,10 +334,13 @@ word-short SpotIn = omega arith
 word-short SpotOut = omega arith
 
 shape-length : (line : Line) (fs : List (List ℕ)) → Shape line fs → (line ≡ Malformed) ⊎ (length (joined fs) ≤ 43)
-shape-length line fs s = ⊎-elim (λ e. inl e) (λ t. inr (⊎-elim lane change t)) s
+shape-length line fs s = ⊎-elim (λ e. inl e) (λ t. inr (⊎-elim lane (⊎-elim least change) t)) s
   where
     lane : LaneShape line fs → length (joined fs) ≤ 43
     lane u = rw (u .fields) (omega (arith, number-short (u .m) (u .number)))
+
+    least : LeastShape line fs → length (joined fs) ≤ 43
+    least u = rw (u .fields) (omega (arith, number-short (u .m) (u .number)))
 
     change : ChangeShape line fs → length (joined fs) ≤ 43
     change u =

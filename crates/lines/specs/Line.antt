@@ -12,15 +12,18 @@ use Rattle.lines.specs.Fields.{comma, fieldsOf, joined, sameBytes, isNum
 use Rattle.lines.specs.declared.Word.{Word}
 use Rattle.lines.specs.declared.Word.the-variants.{DrawIn, DrawOut, SpotIn, SpotOut}
 use Rattle.lines.specs.declared.Line.{Line}
-use Rattle.lines.specs.declared.Line.the-variants.{Lane, Change, Malformed}
+use Rattle.lines.specs.declared.Line.the-variants.{Lane, Least, Change, Malformed}
 
 -- "A line is at most 80 bytes before its byte 10"
 abbrev pub lineLength : ℕ
 lineLength = 80
 
--- the words, as bytes: `lane`, `drawin`, `drawout`, `spotin`, `spotout`
+-- the words, as bytes: `lane`, `least`, `drawin`, `drawout`, `spotin`, `spotout`
 abbrev pub laneBytes : List ℕ
 laneBytes = 108 ∷ (97 ∷ (110 ∷ (101 ∷ [])))
+
+abbrev pub leastBytes : List ℕ
+leastBytes = 108 ∷ (101 ∷ (97 ∷ (115 ∷ (116 ∷ []))))
 
 abbrev pub bytesOf : Word → List ℕ
 bytesOf DrawIn = 100 ∷ (114 ∷ (97 ∷ (119 ∷ (105 ∷ (110 ∷ [])))))
@@ -31,6 +34,11 @@ bytesOf SpotOut = 115 ∷ (112 ∷ (111 ∷ (116 ∷ (111 ∷ (117 ∷ (116 ∷ 
 -- `lane,LAST`
 unfoldable pub laneOf : List ℕ → Line
 laneOf m = pick (isNumber m) (Lane (record { 0 = valueOf m })) Malformed
+
+-- "a line `least,NUMBER`" (document 02, (f)), whatever its number: that it is out of range is not of the form but of
+-- the session
+unfoldable pub leastOf : List ℕ → Line
+leastOf m = pick (isNumber m) (Least (valueOf m)) Malformed
 
 -- the tuple that a change's fields after its word say: label, number, first minute, last minute
 abbrev pub tupleRead : List ℕ → List ℕ → List ℕ → List ℕ → Tuple
@@ -76,9 +84,9 @@ worded w f =
     (pick (sameBytes w (bytesOf DrawOut)) (f DrawOut)
     (pick (sameBytes w (bytesOf SpotIn)) (f SpotIn) (pick (sameBytes w (bytesOf SpotOut)) (f SpotOut) Malformed)))
 
--- "Fields stand in fixed order": two for a lane, five for a change
+-- "Fields stand in fixed order": two for a lane and for a minimum, five for a change
 unfoldable pub formOf : List (List ℕ) → Line
-formOf (w ∷ (m ∷ [])) = pick (sameBytes w laneBytes) (laneOf m) Malformed
+formOf (w ∷ (m ∷ [])) = pick (sameBytes w laneBytes) (laneOf m) (pick (sameBytes w leastBytes) (leastOf m) Malformed)
 formOf (w ∷ (l ∷ (n ∷ (a ∷ (b ∷ []))))) = worded w (λ v. changeOf v l n a b)
 formOf [] = Malformed
 formOf (w ∷ []) = Malformed
@@ -93,12 +101,14 @@ lineOf bs = pick (leb (length bs) lineLength) (formOf (fieldsOf bs)) Malformed
 -- document 01's number for it: 15, "not of the form below"
 abbrev pub lineNumber : Line → ℕ
 lineNumber (Lane m) = 0
+lineNumber (Least n) = 0
 lineNumber (Change w t) = 0
 lineNumber Malformed = 15
 
 -- the line that prints a value ("Output still prints capitals.")
 abbrev pub printed : Line → List ℕ
 printed (Lane m) = laneBytes ++ (comma ∷ digitsOf (m .0))
+printed (Least n) = leastBytes ++ (comma ∷ digitsOf n)
 printed (Change w t) =
     bytesOf w
     ++ (comma ∷ (lettersOf (t .label)

@@ -4,7 +4,7 @@
 ghost use mathlib.Core.Path.{_≡_};
 ghost use Rattle.lists.specs.Members.{placeOf};
 ghost use Rattle.lines.specs.Fields.{isByte, sameBytes, NumberRead, fieldsOf};
-ghost use Rattle.lines.specs.Line.{laneOf, spanForm, numbersForm, changeForm, lineOf};
+ghost use Rattle.lines.specs.Line.{laneOf, leastOf, spanForm, numbersForm, changeForm, lineOf};
 use interval::time::Chronon;
 use interval::time::Interval;
 use interval::tuple::Tuple;
@@ -32,9 +32,11 @@ pub enum Word {
     SpotOut,
 }
 
-// What a line says: a lane's last minute, or a change's word with its tuple; or that it is not of the form (15).
+// What a line says: a lane's last minute, the fewest minutes of a row, or a change's word with its tuple; or that it is
+// not of the form (15).
 pub enum Line {
     Lane(Chronon),
+    Least(u64),
     Change(Word, Tuple),
     Malformed,
 }
@@ -119,6 +121,17 @@ fn read_lane(rest: &[u8]) -> Line
     Line::Lane(Chronon(last))
 }
 
+// The minutes of a `least` line, after its first comma.
+fn read_least(rest: &[u8]) -> Line
+    ensures { λ r. ⌜ r ≡ leastOf (now (rest .entry)) ⌝ }
+{
+    let field = read_number(rest);
+    let NumberField::Value(minutes) = field else {
+        return Line::Malformed;
+    };
+    Line::Least(minutes)
+}
+
 // First and last minute of a change, after its third comma.
 fn read_span(word: Word, label: u64, item: u64, rest: &[u8]) -> Line
     ensures { λ r. ⌜ r ≡ spanForm word label item (fieldsOf (now (rest .entry))) ⌝ }
@@ -193,6 +206,9 @@ pub fn read_line(line: &[u8]) -> Line
     let rest = &line[c + 1..];
     if same(word, b"lane") {
         return read_lane(rest);
+    }
+    if same(word, b"least") {
+        return read_least(rest);
     }
     if same(word, b"drawin") {
         return read_change(Word::DrawIn, rest);

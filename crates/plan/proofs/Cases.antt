@@ -1,5 +1,5 @@
 -- Closed cases that compute, from the definitions that the promises cite: document 01's P10, where its lanes
--- start, and each of checks 1 to 3 at its first illegal value.
+-- start, and each of checks 1 to 3 and 18 at its first illegal value.
 -- Assumes nothing.
 use mathlib.Core.Bool.{true, false}
 use mathlib.Core.List.{List, [], _∷_, _++_, map}
@@ -9,15 +9,25 @@ use lib.ListN.{length, replicate}
 use Rattle.lists.specs.Choice.{firstOf}
 use Rattle.lists.specs.Members.{below}
 use Rattle.interval.specs.declared.time.Chronon.{Chronon}
-use Rattle.plan.specs.Plan.{cutsOf, cover, planNumber, legalPlan, homeOf, home, startOf}
+use Rattle.plan.specs.Plan.{cutsOf, cover, minimumCheck, planNumber, legalPlan, homeOf, home, startOf}
 use Rattle.plan.specs.declared.Partitioning.{Partitioning}
 
 -- a plan of these cuts, in 64 places; those beyond hold 7
 abbrev places : List ℕ → List Chronon
 places cs = map (λ (n : ℕ). record { 0 = n }) (cs ++ replicate (64 - length cs) 7)
 
+-- with that minimum, and with 1
+abbrev lasting : ℕ → ℕ → List ℕ → ℕ → ℕ → Partitioning
+lasting minimum count cs tuples rows = record {
+  count = count;
+  lasts = places cs;
+  tuples = tuples;
+  rows = rows;
+  minimum = minimum;
+}
+
 abbrev plan : ℕ → List ℕ → ℕ → ℕ → Partitioning
-plan count cs tuples rows = record { count = count; lasts = places cs; tuples = tuples; rows = rows }
+plan count cs tuples rows = lasting 1 count cs tuples rows
 
 -- P10's plan, a plan with one partition, and one with 64
 abbrev p10 : Partitioning
@@ -78,7 +88,7 @@ legals : List (Partitioning × ℕ)
 legals = (p10, 0) ∷ ((one, 0) ∷ ((plan 64 full 1 1, 0) ∷ []))
 
 legals-hold : Checks legals
-unfolding legals Checks firstOf cutsOf cover planNumber
+unfolding legals Checks firstOf cutsOf cover minimumCheck planNumber
 legals-hold = (refl, (refl, (refl, tt)))
 
 -- check 1: no partition, one more than 64, the largest count
@@ -90,7 +100,7 @@ counts =
     ∷ []))
 
 counts-hold : Checks counts
-unfolding counts Checks firstOf cutsOf cover planNumber
+unfolding counts Checks firstOf cutsOf cover minimumCheck planNumber
 counts-hold = (refl, (refl, (refl, tt)))
 
 -- check 2: cuts that fall, equal cuts, a last cut before the calendar's end, one cut left out, a cut past the calendar
@@ -106,7 +116,7 @@ cuts =
     ∷ []))))))
 
 cuts-hold : Checks cuts
-unfolding cuts Checks firstOf cutsOf cover planNumber
+unfolding cuts Checks firstOf cutsOf cover minimumCheck planNumber
 cuts-hold = (refl, (refl, (refl, (refl, (refl, (refl, (refl, tt)))))))
 
 -- check 3: each size at its first illegal value
@@ -119,8 +129,21 @@ sizes =
     ∷ [])))
 
 sizes-hold : Checks sizes
-unfolding sizes Checks firstOf cutsOf cover planNumber
+unfolding sizes Checks firstOf cutsOf cover minimumCheck planNumber
 sizes-hold = (refl, (refl, (refl, (refl, tt))))
+
+-- check 18: 0, one past the largest, the largest word; 1,440 is legal
+minima : List (Partitioning × ℕ)
+minima =
+    (lasting 0 1 (99999999 ∷ []) 8 16, 18)
+    ∷ ((lasting 1440 1 (99999999 ∷ []) 8 16, 0)
+    ∷ ((lasting 1441 1 (99999999 ∷ []) 8 16, 18)
+    ∷ ((lasting 18446744073709551615 1 (99999999 ∷ []) 8 16, 18)
+    ∷ [])))
+
+minima-hold : Checks minima
+unfolding minima Checks firstOf cutsOf cover minimumCheck planNumber
+minima-hold = (refl, (refl, (refl, (refl, tt))))
 
 -- several faults: the first check that applies answers
 faults : List (Partitioning × ℕ)
@@ -129,13 +152,16 @@ faults =
     ∷ ((plan 65 (40 ∷ (34 ∷ [])) 8 16, 1)
     ∷ ((plan 2 (40 ∷ (34 ∷ [])) 0 4097, 2)
     ∷ ((plan 1 (99999999 ∷ []) 0 4097, 3)
-    ∷ [])))
+    ∷ ((lasting 0 0 (40 ∷ (34 ∷ [])) 0 4097, 1)
+    ∷ ((lasting 1441 2 (40 ∷ (34 ∷ [])) 8 16, 2)
+    ∷ ((lasting 0 1 (99999999 ∷ []) 8 0, 3)
+    ∷ []))))))
 
 faults-hold : Checks faults
-unfolding faults Checks firstOf cutsOf cover planNumber
-faults-hold = (refl, (refl, (refl, (refl, tt))))
+unfolding faults Checks firstOf cutsOf cover minimumCheck planNumber
+faults-hold = (refl, (refl, (refl, (refl, (refl, (refl, (refl, tt)))))))
 
 -- a plan is legal where its number is 0
 legal-hold : (legalPlan p10 ≡ true) × (legalPlan one ≡ true) × (legalPlan (plan 65 full 8 16) ≡ false)
-unfolding firstOf cutsOf cover planNumber legalPlan
+unfolding firstOf cutsOf cover minimumCheck planNumber legalPlan
 legal-hold = (refl, refl, refl)

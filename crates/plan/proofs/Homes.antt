@@ -5,7 +5,7 @@
 use mathlib.Core.Bool.{Bool, true, false, not, _&&_, _||_, false≢true}
 use mathlib.Core.List.{List, [], _∷_}
 use mathlib.Core.Logic.{_⊎_, inl, inr, ⊎-elim}
-use mathlib.Core.Path.{_≡_, sym, _∙_, ap}
+use mathlib.Core.Path.{_≡_, refl, sym, _∙_, ap}
 use Prim.Native.Nat.{ℕ, zero, suc, _+_, _-_, _≤_, _<_, min}
 use native.Mathlib.Nat.{zero-lt-suc, not-suc-le-zero, le-of-suc-le-suc, le-of-eq, le-of-lt, eq-or-lt-of-le}
 use native.Mathlib.Numerals.{add-one}
@@ -18,10 +18,11 @@ use borrow.Author.Tests.{not-false}
 use Rattle.lists.specs.Choice.{refuseIf, firstOf}
 use Rattle.lists.proofs.Choice.{bool-cases, and-left, and-right, and-both, same-test, pick-true, pick-false}
 use Rattle.lists.proofs.Choice.{or-left, or-right, or-none, or-neither-left, or-neither-right, refuse-none, first-none}
+use Rattle.lists.proofs.Choice.{first-next, answer-last}
 use Rattle.interval.specs.Time.{calendarEnd}
 use Rattle.interval.specs.declared.time.Chronon.{Chronon}
 use Rattle.plan.specs.Plan.{outside, numbers, cutsOf, cover, planNumber, legalPlan, homeOf, startOf}
-use Rattle.plan.specs.Plan.{mostPartitions, mostTuples, mostRows}
+use Rattle.plan.specs.Plan.{mostPartitions, mostTuples, mostRows, mostMinimum, minimumCheck}
 use Rattle.plan.specs.declared.Partitioning.{Partitioning}
 
 -- one number is at most another, or greater
@@ -258,6 +259,8 @@ pub record LegalPlan (p : Partitioning) : Type 0 where
   pub tuples-most : p .tuples ≤ mostTuples
   pub rows-least : 1 ≤ p .rows
   pub rows-most : p .rows ≤ mostRows
+  pub minimum-least : 1 ≤ p .minimum
+  pub minimum-most : p .minimum ≤ mostMinimum
 
 -- a number that is not outside its bounds lies within them
 pub within-is : (least most n : ℕ) → outside least most n ≡ false → (least ≤ n) × (n ≤ most)
@@ -289,6 +292,15 @@ sizes-are p e =
       within-is 1 mostRows (p .rows) (or-neither-right t r h),
     )
 
+-- where check 18 does not apply, and where its bounds hold
+pub minimum-is : (minimum : ℕ) → minimumCheck minimum ≡ 0 → (1 ≤ minimum) × (minimum ≤ mostMinimum)
+unfolding minimumCheck
+minimum-is minimum e = within-is 1 mostMinimum minimum (refuse-none (outside 1 mostMinimum minimum) 17 e)
+
+pub is-minimum : (minimum : ℕ) → 1 ≤ minimum → minimum ≤ mostMinimum → minimumCheck minimum ≡ 0
+unfolding minimumCheck
+is-minimum minimum lo hi = rw (is-within 1 mostMinimum minimum lo hi)
+
 -- a plan to which no check applies
 pub legal-plan : (p : Partitioning) → planNumber p ≡ 0 → LegalPlan p
 unfolding planNumber
@@ -296,7 +308,9 @@ legal-plan p h =
     let a = first-none _ _ h in
     let b = first-none _ _ (a .1) in
     let count = within-is 1 mostPartitions (p .count) (refuse-none (outside 1 mostPartitions (p .count)) 0 (a .0)) in
-    let sizes = sizes-are p (first-none _ _ (b .1) .0) in
+    let d = first-none _ _ (b .1) in
+    let sizes = sizes-are p (d .0) in
+    let minimum = minimum-is (p .minimum) (first-none _ _ (d .1) .0) in
     record {
       least = count .0;
       most = count .1;
@@ -305,6 +319,8 @@ legal-plan p h =
       tuples-most = sizes .0 .1;
       rows-least = sizes .1 .0;
       rows-most = sizes .1 .1;
+      minimum-least = minimum .0;
+      minimum-most = minimum .1;
     }
 
 -- no check applies to it
@@ -314,7 +330,7 @@ plan-legal p l =
     let count = is-within 1 mostPartitions (p .count) (l .least) (l .most) in
     let tuples = is-within 1 mostTuples (p .tuples) (l .tuples-least) (l .tuples-most) in
     let rows = is-within 1 mostRows (p .rows) (l .rows-least) (l .rows-most) in
-    rw (count, l .covered, tuples, rows)
+    rw (count, l .covered, tuples, rows, is-minimum (p .minimum) (l .minimum-least) (l .minimum-most))
 
 -- a plan's number 0 as a test that holds
 pub plan-legal-test : (p : Partitioning) → planNumber p ≡ 0 → legalPlan p ≡ true
@@ -344,3 +360,16 @@ module _ (p : Partitioning) where
       → (outside 1 mostTuples (p .tuples) || outside 1 mostRows (p .rows)) ≡ true → 3 ≡ planNumber p
   unfolding planNumber firstOf
   sizes-answer e h g = rw (e, h, g)
+
+  -- check 18, where none of them does
+  pub minimum-answers : outside 1 mostPartitions (p .count) ≡ false → cover (cutsOf p) ≡ true
+      → (outside 1 mostTuples (p .tuples) || outside 1 mostRows (p .rows)) ≡ false
+      → minimumCheck (p .minimum) ≡ planNumber p
+  unfolding planNumber
+  minimum-answers e h g =
+      let m : ℕ = minimumCheck (p .minimum) in
+      answer-last {r = m} {m = m} refl
+      ∙ sym
+      (first-next (refuseIf (outside 1 mostPartitions (p .count)) 1) _ (rw e)
+      ∙ first-next (refuseIf (not (cover (cutsOf p))) 2) _ (rw h)
+      ∙ first-next (refuseIf (outside 1 mostTuples (p .tuples) || outside 1 mostRows (p .rows)) 3) _ (rw g))

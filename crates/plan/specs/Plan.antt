@@ -20,6 +20,10 @@ mostTuples = 512
 abbrev pub mostRows : ℕ
 mostRows = 4096
 
+-- "The plan gains a minimum, 1 to 1,440 minutes." (document 02, (f))
+abbrev pub mostMinimum : ℕ
+mostMinimum = 1440
+
 abbrev pub outside : ℕ → ℕ → ℕ → Bool
 outside least most n = ltb n least || ltb most n
 
@@ -36,14 +40,19 @@ cover [] = false
 cover (c ∷ []) = eqb c calendarEnd
 cover (c ∷ (e ∷ cs)) = ltb c e && cover (e ∷ cs)
 
--- checks 1 to 3, in that order
+-- check 18: "A minimum out of range"
+unfoldable pub minimumCheck : ℕ → ℕ
+minimumCheck minimum = refuseIf (outside 1 mostMinimum minimum) 18
+
+-- checks 1 to 3, in that order, then 18: "refused with 18, after 3, in every call that takes a plan"
 unfoldable pub planNumber : Partitioning → ℕ
 planNumber p =
     firstOf
     (refuseIf (outside 1 mostPartitions (p .count)) 1
     ∷ (refuseIf (not (cover (cutsOf p))) 2
     ∷ (refuseIf (outside 1 mostTuples (p .tuples) || outside 1 mostRows (p .rows)) 3
-    ∷ [])))
+    ∷ (minimumCheck (p .minimum)
+    ∷ []))))
 
 -- "A plan is legal if none of the plan's own checks below applies to it."
 unfoldable pub legalPlan : Partitioning → Bool
@@ -63,11 +72,12 @@ startOf cs zero = 0
 startOf cs (suc i) = getD cs i 0 + 1
 
 -- "Recut replaces the plan's last minutes, n and capacities kept"; "those beyond n are ignored, and recut keeps what
--- the old plan has there"
+-- the old plan has there"; "A recut keeps the minimum."
 unfoldable pub withCuts : Partitioning → List Chronon → Partitioning
 withCuts p new = record {
   count = p .count;
   lasts = take (p .count) new ++ drop (p .count) (p .lasts);
   tuples = p .tuples;
   rows = p .rows;
+  minimum = p .minimum;
 }

@@ -1,8 +1,8 @@
-// Partitionings (document 01: plans), by value: their own checks 1 to 3, the partition of a chronon, a plan with new
-// cuts. Cost: at most a comparison for each place of a plan.
+// Partitionings (document 01: plans), by value: their own checks 1 to 3 and 18, the partition of a chronon, a plan with
+// new cuts. Cost: at most a comparison for each place of a plan.
 ghost use mathlib.Core.Path.{_≡_};
 ghost use lib.ListN.{take};
-ghost use Rattle.plan.specs.Plan.{numbers, cover, planNumber, home, withCuts};
+ghost use Rattle.plan.specs.Plan.{numbers, cover, minimumCheck, planNumber, home, withCuts};
 use interval::time::CALENDAR_END;
 use interval::time::Chronon;
 
@@ -15,6 +15,9 @@ pub const MOST_TUPLES: u64 = 512;
 // The most rows of one of its lanes.
 pub const MOST_ROWS: u64 = 4_096;
 
+// The largest minimum of a legal plan, in minutes.
+pub const MOST_MINIMUM: u64 = 1_440;
+
 // The places that a plan has for last minutes.
 pub const PLACES: usize = MOST_PARTITIONS as usize;
 
@@ -23,12 +26,13 @@ pub const PLACES: usize = MOST_PARTITIONS as usize;
 pub struct PartitionIndex(pub u64);
 
 // A plan of document 01: the lane count, the last minute of each lane, the tuple capacity and the row capacity of a
-// lane.
+// lane, and the fewest minutes that a row may last.
 pub struct Partitioning {
     pub count: u64,
     pub lasts: [Chronon; PLACES],
     pub tuples: u64,
     pub rows: u64,
+    pub minimum: u64,
 }
 
 // The first `count` of the last chronons rise strictly and end at the calendar's end.
@@ -55,7 +59,20 @@ pub fn covers(count: u64, lasts: [Chronon; PLACES]) -> bool
     end.0 == CALENDAR_END
 }
 
-// Checks 1 to 3 of a plan: the number of the first that applies, 0 if none does.
+// Check 18 of a minimum, a plan's or a line's.
+pub fn minimum_check(minimum: u64) -> u64
+    ensures { λ r. ⌜ r ≡ minimumCheck minimum ⌝ }
+{
+    if minimum < 1 {
+        return 18;
+    }
+    if MOST_MINIMUM < minimum {
+        return 18;
+    }
+    0
+}
+
+// Checks 1 to 3 and 18 of a plan, in that order: the number of the first that applies, 0 if none does.
 pub fn plan_number(p: Partitioning) -> u64
     ensures { λ r. ⌜ r ≡ planNumber p ⌝ }
 {
@@ -81,7 +98,7 @@ pub fn plan_number(p: Partitioning) -> u64
     if MOST_ROWS < p.rows {
         return 3;
     }
-    0
+    minimum_check(p.minimum)
 }
 
 // The partition that contains a chronon; the number of partitions where none does.
@@ -123,5 +140,6 @@ pub fn with_cuts(p: Partitioning, new: [Chronon; PLACES]) -> Partitioning
         lasts,
         tuples: p.tuples,
         rows: p.rows,
+        minimum: p.minimum,
     }
 }

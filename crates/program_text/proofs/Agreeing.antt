@@ -23,11 +23,11 @@ use Rattle.history.proofs.Kept.{Kept, Done, told-accepted}
 use Rattle.history.proofs.Answered.{insert-answered, delete-answered}
 use Rattle.lines.specs.declared.Word.{Word}
 use Rattle.lines.specs.declared.Line.{Line}
-use Rattle.lines.specs.declared.Line.the-variants.{Lane, Change, Malformed}
-use Rattle.session_plan.specs.Lanes.{planOf}
+use Rattle.lines.specs.declared.Line.the-variants.{Lane, Least, Change, Malformed}
+use Rattle.session_plan.specs.Lanes.{planOf, leastCheck}
 use Rattle.session_plan.specs.declared.Session.{Session}
-use Rattle.session_plan.proofs.Lanes.{lane-passed}
-use Rattle.session_plan.proofs.Plans.{Good, good-fresh}
+use Rattle.session_plan.proofs.Lanes.{lane-passed, least-passed}
+use Rattle.session_plan.proofs.Plans.{Good, good-fresh, good-least}
 use Rattle.session.specs.Session.{EightPartitions, wallOf, laneNumber, kindOf, sideOf, numberOf}
 use Rattle.session.specs.Session.{changeLineNumber, WallChanged, LaneTaken, stepNumber, SteppedBy}
 use Rattle.session.specs.declared.Stepped.{Stepped}
@@ -73,6 +73,7 @@ guarded false m n h = refl
 number-is : (st : State) (line : Line) (S : Stores) → Agrees st S → stepNumber (st .session) line S ≡ answerTo st line
 unfolding changeLineNumber
 number-is st (Lane m) S a = lane-number-is (st .session) m S (a .good) (a .long)
+number-is st (Least minimum) S a = refl
 number-is st (Change w t) S a =
     guarded (st .session .complete) _ _
     (λ c.
@@ -136,6 +137,20 @@ lane-agrees st S S′ a m z taken y =
       late = λ c. rw (none .0, none .1) (blank-kept s m S z S′ (a .good) taken (eqb-true (m .0) calendarEnd c));
     }
 
+-- ---- what an accepted `least` line leaves: every word as it was, and the plan is not complete
+
+least-agrees : (st : State) (S S′ : Stores) → Agrees st S → (minimum : ℕ) → leastCheck (st .session) minimum ≡ 0
+    → S′ ≡ S → Agrees (accepted st (Least minimum)) S′
+least-agrees st S S′ a minimum z same =
+    let s = st .session in
+    let open-yet = least-passed s minimum z .0 in
+    record {
+      good = good-least s minimum (a .good) z;
+      long = rw same (a .long);
+      early = λ u. a .early open-yet;
+      late = λ c. absurd (true≢false (sym c ∙ open-yet));
+    }
+
 -- ---- what a line leaves
 
 -- the state after it, and that the wall agrees with that
@@ -149,6 +164,9 @@ module _ (st : State) (S S′ : Stores) (a : Agrees st S) where
   accepted-agrees (Lane m) r b z y =
       let n = sym (b .number) ∙ z in
       (b .session ∙ after-accepted (st .session) (Lane m) S n, lane-agrees st S S′ a m n (b .accepted z) y)
+  accepted-agrees (Least minimum) r b z y =
+      let n = sym (b .number) ∙ z in
+      (b .session ∙ after-accepted (st .session) (Least minimum) S n, least-agrees st S S′ a minimum n (b .accepted z))
   accepted-agrees (Change w t) r b z y =
       let n = sym (b .number) ∙ z in (
         b .session

@@ -1,6 +1,6 @@
 -- Closed cases that compute: inputs and their texts. One table, one theorem (`cases-hold`).
 -- In order: how a case is written; document 01's example; what a line is; lane lines; changes; rows; small letters in
--- labels; the theorem.
+-- labels; the fewest minutes of a row; the theorem.
 -- Assumes nothing.
 use mathlib.Core.List.{List, [], _∷_, _++_, map}
 use mathlib.Core.Path.{_≡_, refl}
@@ -12,18 +12,18 @@ use Rattle.lists.specs.Choice.{firstOf}
 use Rattle.lists.specs.Members.{gather}
 use Rattle.label.specs.Label.{rank, isLetter, isLabel, labelNumber, capital, capitals, isLabelField}
 use Rattle.label.specs.Label.{fieldLabelNumber, lettersOf, labelCheck}
-use Rattle.interval.specs.Time.{overlap}
+use Rattle.interval.specs.Time.{overlap, durability, durable}
 use Rattle.interval.specs.Tuple.{sameLabel, sameInterval, sameTuple, tupleNumber, itemCheck, validCheck}
-use Rattle.plan.specs.Plan.{cutsOf, homeOf, home}
+use Rattle.plan.specs.Plan.{cutsOf, minimumCheck, homeOf, home}
 use Rattle.store.specs.Store.{tuplesAt, rowsAt}
 use Rattle.rows.specs.Join.{rowsOfPair, joinOf}
 use Rattle.history.specs.Answering.{partitionFull, rowsPass, insertAnswer, deleteAnswer}
 use Rattle.lines.specs.Fields.{isNumber, valueOf, digitsOf}
-use Rattle.lines.specs.Line.{laneOf, changeOf, worded, formOf, lineOf}
+use Rattle.lines.specs.Line.{laneOf, leastOf, changeOf, worded, formOf, lineOf}
 use Rattle.refusal_text.specs.Refusals.{refusalLine, answerText, unfinishedText}
 use Rattle.report.specs.Order.{before}
 use Rattle.report.specs.Text.{rowLine, countLine}
-use Rattle.session_plan.specs.Lanes.{badLane, laneCheck}
+use Rattle.session_plan.specs.Lanes.{badLane, laneCheck, leastCheck}
 use Rattle.transcript.specs.Rows.{putRow, sortRows, laneLines, printedRows}
 use Rattle.program_text.specs.Text.{after, reportText, textOfInput}
 
@@ -339,16 +339,91 @@ smalls =
     ∷ [])
     ∷ []
 
+-- ---- the fewest minutes of a row
+
+-- document 01's example with rows of at least three minutes; lines out of range, several of which the last accepted one
+-- counts, and all of them refused with 16 once the plan is complete; the largest minimum; withdrawals of tuples that
+-- made no row
+abbrev leasts : List Case
+leasts =
+    session
+    ("least,3"
+    ∷ "lane,34"
+    ∷ "lane,40"
+    ∷ "lane,99999999"
+    ∷ "drawin,AL,10,30,31"
+    ∷ "drawin,AL,11,32,32"
+    ∷ "drawin,AL,10,33,40"
+    ∷ "drawin,AL,11,41,48"
+    ∷ "spotin,AL,1,30,35"
+    ∷ "spotin,AL,2,36,48"
+    ∷ [])
+    ("rows,3"
+    ∷ "2,AL,10,1,33,35"
+    ∷ "2,AL,10,2,36,40"
+    ∷ "3,AL,11,2,41,48"
+    ∷ [])
+    ∷ session
+    ("least,0"
+    ∷ "least,1441"
+    ∷ "least,9"
+    ∷ "lane,34"
+    ∷ "least,5"
+    ∷ "least,00"
+    ∷ "lane,99999999"
+    ∷ "least,1"
+    ∷ "least,0"
+    ∷ "least,x"
+    ∷ "drawin,A,1,1,10"
+    ∷ "spotin,A,2,6,20"
+    ∷ "spotin,A,3,7,20"
+    ∷ [])
+    ("refused,1,18"
+    ∷ "refused,2,18"
+    ∷ "refused,6,15"
+    ∷ "refused,8,16"
+    ∷ "refused,9,16"
+    ∷ "refused,10,15"
+    ∷ "rows,1"
+    ∷ "1,A,1,2,6,10"
+    ∷ [])
+    ∷ session
+    ("lane,5"
+    ∷ "least,1440"
+    ∷ "lane,99999999"
+    ∷ "drawin,A,1,0,1439"
+    ∷ "spotin,A,2,0,1439"
+    ∷ "spotin,A,3,1,1439"
+    ∷ [])
+    ("rows,1"
+    ∷ "2,A,1,2,0,1439"
+    ∷ [])
+    ∷ session
+    ("least,2"
+    ∷ "lane,99999999"
+    ∷ "drawin,A,1,1,5"
+    ∷ "spotin,A,2,5,9"
+    ∷ "spotin,A,3,4,9"
+    ∷ "spotout,A,2,5,9"
+    ∷ "drawout,A,1,1,5"
+    ∷ "spotout,A,3,4,9"
+    ∷ "drawout,A,1,1,5"
+    ∷ [])
+    ("refused,9,11"
+    ∷ "rows,0"
+    ∷ [])
+    ∷ []
+
 -- ---- the theorem
 
 abbrev pub table : List Case
-table = (example ∷ lines) ++ forms ++ lanes ++ changes ++ spans ++ multiples ++ orders ++ smalls
+table = (example ∷ lines) ++ forms ++ lanes ++ changes ++ spans ++ multiples ++ orders ++ smalls ++ leasts
 
 -- each input has the text that the table has for it
 pub cases-hold : map (λ (c : Case). textOfInput (c .input)) table ≡ map (λ (c : Case). c .prints) table
 unfolding isNumber valueOf rank isLetter isLabel labelNumber capital capitals isLabelField fieldLabelNumber laneOf
-    changeOf worded formOf lineOf sameLabel sameInterval sameTuple printedRows laneLines sortRows putRow before
-    rowLine countLine digitsOf lettersOf overlap rowsOfPair joinOf rowsAt tuplesAt home homeOf cutsOf partitionFull
-    rowsPass insertAnswer deleteAnswer labelCheck itemCheck validCheck tupleNumber firstOf badLane laneCheck
-    refusalLine answerText unfinishedText after reportText textOfInput
+    leastOf changeOf worded formOf lineOf sameLabel sameInterval sameTuple printedRows laneLines sortRows putRow before
+    rowLine countLine digitsOf lettersOf overlap durability durable rowsOfPair joinOf rowsAt tuplesAt home homeOf cutsOf
+    partitionFull rowsPass insertAnswer deleteAnswer labelCheck itemCheck validCheck tupleNumber firstOf badLane
+    laneCheck leastCheck minimumCheck refusalLine answerText unfinishedText after reportText textOfInput
 cases-hold = refl

@@ -148,7 +148,8 @@ module _ (st : State) (s : Reading) (S : Stores) (out rows′ out′ : List ℕ)
       Goal b =
           take (r .bytes) out′
           ≡ restText s
-          ++ pick b (printedRows (planOf (s .session)) (joinOf (st .outer) (st .inner))) (countLine 0)
+          ++ pick b (printedRows (planOf (s .session)) (joinOf (s .session .minimum) (st .outer) (st .inner)))
+          (countLine 0)
 
       with-report : s .session .complete ≡ true → ReportAfter s (S .rows) out rows′ out′ r → Goal true
       with-report c g =

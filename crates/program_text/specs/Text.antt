@@ -18,10 +18,10 @@ use Rattle.history.specs.Machine.{Machine, accept}
 use Rattle.history.specs.Answering.{insertAnswer, deleteAnswer}
 use Rattle.lines.specs.Line.{lineNumber}
 use Rattle.lines.specs.declared.Line.{Line}
-use Rattle.lines.specs.declared.Line.the-variants.{Lane, Change, Malformed}
+use Rattle.lines.specs.declared.Line.the-variants.{Lane, Least, Change, Malformed}
 use Rattle.refusal_text.specs.Refusals.{lineCount, refusals, unfinishedText}
 use Rattle.report.specs.Text.{countLine}
-use Rattle.session_plan.specs.Lanes.{fresh, planOf, withLane, laneCheck}
+use Rattle.session_plan.specs.Lanes.{fresh, planOf, withLane, withMinimum, laneCheck, leastCheck}
 use Rattle.session_plan.specs.declared.Session.{Session}
 use Rattle.session.specs.Session.{kindOf, sideOf}
 use Rattle.transcript.specs.Transcript.{callOf}
@@ -30,7 +30,7 @@ use Rattle.stream.specs.Input.{unfinished, valuesOf}
 
 -- ---- the numbers that lines get, by the plain machine of demand 3
 
--- the lane lines taken so far, and the machine's drawings and spots
+-- the lane lines taken so far, the minimum, and the machine's drawings and spots
 pub record State : Type 0 where
   pub session : Session
   pub outer : List Tuple
@@ -40,7 +40,7 @@ pub record State : Type 0 where
 abbrev pub begun : State
 begun = record { session = fresh; outer = []; inner = [] }
 
--- the machine, whose plan in force is that of the lane lines
+-- the machine, whose plan in force is that of the lane lines and of the last accepted `least` line
 abbrev pub machineOf : State → Machine
 machineOf s = record { plan = planOf (s .session); outer = s .outer; inner = s .inner }
 
@@ -51,9 +51,11 @@ callAnswer Delete m side t = deleteAnswer m side t
 
 -- a line's number. "A lane line that isn't above the one before, or an eighth that isn't 99999999, gives 2"; one after
 -- the plan is complete gives 16, and so does a change before it; a line that is not of the form gives 15. "For a line,
--- 15 and 16 come before all others."
+-- 15 and 16 come before all others." A `least` line "gets 16 once the plan is complete", and "with a number out of
+-- range gets 18, after 15 and 16"
 abbrev pub answerTo : State → Line → ℕ
 answerTo s (Lane m) = laneCheck (s .session) (m .0)
+answerTo s (Least minimum) = leastCheck (s .session) minimum
 answerTo s (Change w t) =
     firstOf (refuseIf (not (s .session .complete)) 16 ∷ (callAnswer (kindOf w) (machineOf s) (sideOf w) t ∷ []))
 answerTo s Malformed = lineNumber Malformed
@@ -63,10 +65,15 @@ abbrev pub holding : State → Option Machine → State
 holding s none = s
 holding s (some m) = record { session = s .session; outer = m .outer; inner = m .inner }
 
--- what an accepted line makes of it: one lane more ("the line with 99999999 completes the plan"), a change; a line that
--- is not of the form is not accepted
+-- what an accepted line makes of it: one lane more ("the line with 99999999 completes the plan"), a minimum ("the last
+-- accepted one counts"), a change; a line that is not of the form is not accepted
 abbrev pub accepted : State → Line → State
 accepted s (Lane m) = record { session = withLane (s .session) m; outer = s .outer; inner = s .inner }
+accepted s (Least minimum) = record {
+  session = withMinimum (s .session) minimum;
+  outer = s .outer;
+  inner = s .inner;
+}
 accepted s (Change w t) = holding s (accept (callOf w t) (machineOf s))
 accepted s Malformed = s
 
@@ -89,7 +96,9 @@ stateAfter s (line ∷ lines) = stateAfter (after s line) lines
 -- number, drawing, spot"; "No complete plan: `rows,0`."
 unfoldable pub reportText : State → List ℕ
 reportText s =
-    pick (s .session .complete) (printedRows (planOf (s .session)) (joinOf (s .outer) (s .inner))) (countLine 0)
+    pick (s .session .complete)
+    (printedRows (planOf (s .session)) (joinOf (s .session .minimum) (s .outer) (s .inner)))
+    (countLine 0)
 
 -- of an input whose finished lines have these values and that ends with these unfinished bytes: "A refused line prints
 -- `refused,LINE,NUMBER`, lines counted from 1."; "an unfinished last line gives 15"; then the report

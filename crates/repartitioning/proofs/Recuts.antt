@@ -59,9 +59,11 @@ module _ (p : Partitioning) (new : List Chronon) (long : length new ≡ mostPart
         tuples-most = plan .tuples-most;
         rows-least = plan .rows-least;
         rows-most = plan .rows-most;
+        minimum-least = plan .minimum-least;
+        minimum-most = plan .minimum-most;
       })
 
   pub with-cuts-recut : cover (take (p .count) (numbers new)) ≡ true → Recut p (withCuts p new)
   unfolding withCuts
   with-cuts-recut e =
-      record { old = legal; new = with-cuts-legal e; count = refl; tuples = refl; rows = refl }
+      record { old = legal; new = with-cuts-legal e; count = refl; tuples = refl; rows = refl; minimum = refl }

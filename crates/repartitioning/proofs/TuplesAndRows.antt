@@ -90,13 +90,13 @@ module _ (p q : Partitioning) (ws : List ℕ) (recut : Recut p q) (stand : Tuple
 
 -- ---- rows
 
-abbrev rows-held : Held rows
-rows-held = record {
-  legal = legalRow;
+abbrev rows-held : ℕ → Held rows
+rows-held minimum = record {
+  legal = legalRow minimum;
   last = rowTo;
   same = sameRow;
   last-is = λ r. refl;
-  in-calendar = λ r e. valid-ok (r .valid) (legal-row r e .valid) .1;
+  in-calendar = λ r e. valid-ok (r .valid) (legal-row minimum r e .valid) .1;
   wide = omega arith;
 }
 
@@ -109,12 +109,16 @@ module _ (p q : Partitioning) (ws : List ℕ) (recut : Recut p q) (stand : RowsS
   rows-room : rowRoom p ≡ rowRoom q
   rows-room = rw (recut .rows)
 
-  rows-standing : Standing rows rows-held (q .rows) (q .count) ws
+  -- both plans ask the same minutes of a row
+  abbrev held : Held rows
+  held = rows-held (q .minimum)
+
+  rows-standing : Standing rows held (q .rows) (q .count) ws
   unfolding soundRowPart rowAtHome
   rows-standing = record {
     long = rw (recut .count, recut .rows) (rows-given p (length ws) (stand .fits) .1);
     ok = λ i r. rowAtHome p i (rowOf r);
-    ok-legal = λ i r e. and-left (legalRow (rowOf r)) _ e;
+    ok-legal = λ i r e. rw (recut .minimum) (and-left (legalRow (p .minimum) (rowOf r)) _ e);
     sound = λ i l. rw (recut .rows) (sound-rows-at p ws (stand .sound) i (omega (arith, recut .count)));
   }
 
@@ -124,25 +128,25 @@ module _ (p q : Partitioning) (ws : List ℕ) (recut : Recut p q) (stand : RowsS
     unfolding rowsOverfull rowsAt storedRows
     rows-overfull-is =
         ap (λ (n : ℕ). overfull rowWidth n q (q .rows) ws) (is ∙ rows-room)
-        ∙ sym (overfull-is rows rows-held q (q .rows) (recut .new) ws)
+        ∙ sym (overfull-is rows held q (q .rows) (recut .new) ws)
         ∙ ap (λ (rs : List Row). any (λ i. ltb (q .rows) (length (rowsAt q i rs))) (below (q .count)))
         (sym rows-stored)
 
     pub rows-counts : Counts rowWidth room (q .count) ws
-    rows-counts = rw (is, rows-room) (counts rows rows-held q (q .rows) (recut .new) ws rows-standing)
+    rows-counts = rw (is, rows-room) (counts rows held q (q .rows) (recut .new) ws rows-standing)
 
     pub rows-homed : Homed rowWidth (cutsOf q) (storedRecords rowWidth room (q .count) ws)
-    rows-homed = rw (is, rows-room) (homed rows rows-held q (q .rows) (recut .new) ws rows-standing)
+    rows-homed = rw (is, rows-room) (homed rows held q (q .rows) (recut .new) ws rows-standing)
 
     pub rows-movable : rowsOverfull p q ws ≡ false → Movable rowWidth room q ws
     rows-movable none =
         rw (is, rows-room)
-        (movable rows rows-held q (q .rows) (recut .new) ws rows-standing
+        (movable rows held q (q .rows) (recut .new) ws rows-standing
         (rw (is, rows-room) at rows-overfull-is ∙ none))
 
     pub rows-moved : (ws′ : List ℕ) → Rehomed rowWidth room q ws ws′ → RowsMoved p q ws ws′
     unfolding storedRows soundRowPart rowAtHome
     rows-moved ws′ moved =
         let r : Rehomed rowWidth (rowRoom q) q ws ws′ = rw (is, rows-room) at moved in
-        let after = after-move rows rows-held q (q .rows) (recut .new) ws rows-standing ws′ r in
+        let after = after-move rows held q (q .rows) (recut .new) ws rows-standing ws′ r in
         record { long = r .long; sound = rows-sound-by q ws′ (after .0); held = rw rows-stored (after .1) }

@@ -52,13 +52,15 @@ pub record Moved (p q : Partitioning) (s s′ : Stores) : Type 0 where
 
 -- ---- what the functions ask
 
--- "Recut replaces the plan's last minutes, n and capacities kept": q is p with other cuts, and both are legal
+-- "Recut replaces the plan's last minutes, n and capacities kept"; "A recut keeps the minimum.": q is p with other
+-- cuts, and both are legal
 pub record Recut (p q : Partitioning) : Type 0 where
   pub old : planNumber p ≡ 0
   pub new : planNumber q ≡ 0
   pub count : q .count ≡ p .count
   pub tuples : q .tuples ≡ p .tuples
   pub rows : q .rows ≡ p .rows
+  pub minimum : q .minimum ≡ p .minimum
 
 -- a tuple store, the rows store past checks 4 and 5 by the plan p
 pub record TuplesStand (p : Partitioning) (ws : List ℕ) : Type 0 where

@@ -133,10 +133,11 @@ unfolding itemCheck
 item-most n e = ltb-false itemEnd n (refuse-none (ltb itemEnd n) 6 e)
 
 -- a legal row's line, for a lane number of at most two digits
-row-bound : (partition : ℕ) (r : Row) → partition < 100 → legalRow r ≡ true → length (rowLine partition r) ≤ rowBytes
+row-bound : (minimum partition : ℕ) (r : Row) → partition < 100 → legalRow minimum r ≡ true
+    → length (rowLine partition r) ≤ rowBytes
 unfolding rowLine
-row-bound partition r h l =
-    let legal = legal-row r l in
+row-bound minimum partition r h l =
+    let legal = legal-row minimum r l in
     let valid = valid-ok (r .valid) (legal .valid) in
     simp length-append
     (omega (
@@ -150,16 +151,16 @@ row-bound partition r h l =
     ))
 
 -- the lines of legal rows
-rows-bound : (partition : ℕ) (ok : Row → Bool) (rs : List Row) → partition < 100
-    → ((r : Row) → ok r ≡ true → legalRow r ≡ true)
+rows-bound : (minimum partition : ℕ) (ok : Row → Bool) (rs : List Row) → partition < 100
+    → ((r : Row) → ok r ≡ true → legalRow minimum r ≡ true)
     → all ok rs ≡ true → length (gather (rowLine partition) rs) ≤ rowBytes * length rs
-rows-bound partition ok [] h legal e = omega arith
-rows-bound partition ok (r ∷ rs) h legal e =
+rows-bound minimum partition ok [] h legal e = omega arith
+rows-bound minimum partition ok (r ∷ rs) h legal e =
     omega (
       arith,
       length-append (rowLine partition r) (gather (rowLine partition) rs),
-      row-bound partition r h (legal r (and-left (ok r) (all ok rs) e)),
-      rows-bound partition ok rs h legal (and-right (ok r) (all ok rs) e),
+      row-bound minimum partition r h (legal r (and-left (ok r) (all ok rs) e)),
+      rows-bound minimum partition ok rs h legal (and-right (ok r) (all ok rs) e),
     )
 
 module _ (p : Partitioning) (rows : List ℕ) (s : SoundStore p rows) where
@@ -169,9 +170,9 @@ module _ (p : Partitioning) (rows : List ℕ) (s : SoundStore p rows) where
   partition-bound i h =
       omega (
         arith,
-        rows-bound (i + 1) (rowAtHome p i) (rowsIn (rowPart p rows i))
+        rows-bound (p .minimum) (i + 1) (rowAtHome p i) (rowsIn (rowPart p rows i))
             (omega (arith, legal-plan p (s .legal) .most))
-            (λ r e. and-left (legalRow r) _ e)
+            (λ r e. and-left (legalRow (p .minimum) r) _ e)
             (rows-at-home p i (rowPart p rows i) (sound-rows-at p rows (s .sound) i h)),
         length-rows (rowPart p rows i),
       )

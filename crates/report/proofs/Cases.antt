@@ -9,9 +9,10 @@ use lib.ListN.{length, replicate}
 use Rattle.lists.specs.Choice.{firstOf}
 use Rattle.lists.specs.Members.{gather}
 use Rattle.label.specs.Label.{labelCheck, lettersOf}
+use Rattle.interval.specs.Time.{durability, durable}
 use Rattle.interval.specs.Tuple.{row, rowWords, itemCheck, validCheck, rowNumber, legalRow}
 use Rattle.interval.specs.declared.tuple.Row.{Row}
-use Rattle.plan.specs.Plan.{cutsOf, cover, planNumber, legalPlan, home, homeOf}
+use Rattle.plan.specs.Plan.{cutsOf, cover, minimumCheck, planNumber, legalPlan, home, homeOf}
 use Rattle.plan.specs.declared.Partitioning.{Partitioning}
 use Rattle.part.specs.Part.{counted, recordsIn, rowsIn, soundPart}
 use Rattle.store.specs.Store.{fitsRows, rowAtHome, soundRowPart, soundRows, storedRows}
@@ -23,14 +24,18 @@ use Rattle.report.specs.Report.{reportNumber}
 
 -- ---- how a case is written
 
--- a plan with these cuts, and two rows a lane
-abbrev plan : ℕ → List ℕ → Partitioning
-plan n cuts = record {
+-- a plan with these cuts, and two rows a lane: with that minimum, and with 1
+abbrev lasting : ℕ → ℕ → List ℕ → Partitioning
+lasting minimum n cuts = record {
   count = n;
   lasts = map (λ (m : ℕ). record { 0 = m }) (cuts ++ replicate (64 - length cuts) 0);
   tuples = 8;
   rows = 2;
+  minimum = minimum;
 }
+
+abbrev plan : ℕ → List ℕ → Partitioning
+plan n cuts = lasting 1 n cuts
 
 -- the words of a lane with these rows
 abbrev partition : List Row → List ℕ
@@ -46,8 +51,11 @@ case c s = record { computed = c; stated = s }
 
 -- ---- the text: document 01's example
 
+abbrev cuts3 : List ℕ
+cuts3 = 34 ∷ 40 ∷ 99999999 ∷ []
+
 abbrev three : Partitioning
-three = plan 3 (34 ∷ 40 ∷ 99999999 ∷ [])
+three = plan 3 cuts3
 
 abbrev rows : List ℕ
 rows =
@@ -140,7 +148,8 @@ unfolding before sorted
 order-cases = refl
 
 -- the checks: no lane; cuts that do not rise; a store one word short; a row in another lane's part; a buffer of
--- 16 + 48 * 5 bytes, and one of a byte less
+-- 16 + 48 * 5 bytes, and one of a byte less; a minimum out of range, and one with cuts that do not rise; a minimum that
+-- a stored row of one minute does not reach
 abbrev pub checks : List ℕ
 checks =
     reportNumber (plan 0 []) rows 256
@@ -149,10 +158,14 @@ checks =
     ∷ reportNumber three (partition (row 38 10 1 36 40 ∷ []) ++ replicate 22 0) 256
     ∷ reportNumber three rows 256
     ∷ reportNumber three rows 255
+    ∷ reportNumber (lasting 0 3 cuts3) rows 256
+    ∷ reportNumber (lasting 1441 3 cuts3) rows 256
+    ∷ reportNumber (lasting 0 2 (40 ∷ 40 ∷ [])) rows 256
+    ∷ reportNumber (lasting 2 3 cuts3) rows 256
     ∷ []
 
-pub check-cases : checks ≡ 1 ∷ 2 ∷ 4 ∷ 5 ∷ 0 ∷ 4 ∷ []
-unfolding reportNumber planNumber cutsOf cover legalPlan rowsLength rowsUnsound fitsRows soundRows soundRowPart
-    soundPart rowAtHome legalRow rowNumber labelCheck itemCheck validCheck home homeOf firstOf storedRows rowsIn
-    recordsIn counted
+pub check-cases : checks ≡ 1 ∷ 2 ∷ 4 ∷ 5 ∷ 0 ∷ 4 ∷ 18 ∷ 18 ∷ 2 ∷ 5 ∷ []
+unfolding reportNumber planNumber minimumCheck cutsOf cover legalPlan rowsLength rowsUnsound fitsRows soundRows
+    soundRowPart soundPart rowAtHome legalRow rowNumber labelCheck itemCheck validCheck durability durable home homeOf
+    firstOf storedRows rowsIn recordsIn counted
 check-cases = refl

@@ -21,8 +21,8 @@ use Rattle.report.specs.declared.Reported.{Reported}
 abbrev pub textRoom : ℕ → ℕ
 textRoom n = headBytes + rowBytes * n
 
--- checks 1 to 3 of the plan; 4, the store's length; 5, its soundness; and 4 again where the buffer is too short, which
--- stands last since only a sound store tells how many rows there are
+-- checks 1 to 3 and 18 of the plan; 4, the store's length; 5, its soundness; and 4 again where the buffer is too short,
+-- which stands last since only a sound store tells how many rows there are
 unfoldable pub reportNumber : Partitioning → List ℕ → ℕ → ℕ
 reportNumber p rows room =
     firstOf

@@ -41,7 +41,7 @@ fn count_rows(p: Partitioning, rows: &[u64]) -> u64
     count
 }
 
-// The checks: of the plan (1 to 3), the store's length (4) and soundness (5), and the buffer's length (4).
+// The checks: of the plan (1 to 3 and 18), the store's length (4) and soundness (5), and the buffer's length (4).
 fn report_number(p: Partitioning, rows: &[u64], room: usize) -> u64
     ensures { λ r. ⌜ r ≡ reportNumber p (now (rows .entry)) room ⌝ }
 {

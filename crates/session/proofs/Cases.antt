@@ -1,6 +1,7 @@
 -- Closed cases that compute, from the definitions that the promises cite: the numbers of lists of lines, each line
 -- taken by the session that the one before left, on stores of 0. Lane lines rise, complete the plan, come too late; a
--- change comes before the plan is complete; an eighth lane is not the end, and then is; a store is too short; changes.
+-- change comes before the plan is complete; an eighth lane is not the end, and then is; a store is too short; `least`
+-- lines before the lane lines, between them and after them; changes.
 -- Assumes nothing.
 use mathlib.Core.List.{List, [], _∷_}
 use mathlib.Core.Path.{_≡_, refl}
@@ -9,7 +10,7 @@ use lib.ListN.{replicate}
 use Rattle.lists.specs.Choice.{firstOf}
 use Rattle.label.specs.Label.{labelCheck}
 use Rattle.interval.specs.Tuple.{tuple, tupleNumber, itemCheck, validCheck}
-use Rattle.plan.specs.Plan.{cutsOf, cover, planNumber, legalPlan, home, homeOf}
+use Rattle.plan.specs.Plan.{cutsOf, cover, minimumCheck, planNumber, legalPlan, home, homeOf}
 use Rattle.part.specs.Part.{counted, soundPart, recordsIn, tuplesIn, rowsIn}
 use Rattle.store.specs.Store.{fitsTuples, fitsRows, soundTuples, soundRows, soundTuplePart, soundRowPart}
 use Rattle.store.specs.Store.{storedTuples, rowsAt}
@@ -21,8 +22,8 @@ use Rattle.insertion.specs.Inserts.{overfull}
 use Rattle.join.specs.Changes.{insertNumber, deleteNumber}
 use Rattle.lines.specs.declared.Word.the-variants.{DrawIn, SpotOut}
 use Rattle.lines.specs.declared.Line.{Line}
-use Rattle.lines.specs.declared.Line.the-variants.{Lane, Change, Malformed}
-use Rattle.session_plan.specs.Lanes.{fresh, badLane, laneCheck}
+use Rattle.lines.specs.declared.Line.the-variants.{Lane, Least, Change, Malformed}
+use Rattle.session_plan.specs.Lanes.{fresh, planOf, badLane, laneCheck, leastCheck}
 use Rattle.session_plan.specs.declared.Session.{Session}
 use Rattle.session.specs.Session.{laneNumber, changeLineNumber, stepNumber, sessionAfter}
 
@@ -79,9 +80,37 @@ lanes =
 
 lanes-hold : Cases lanes
 unfolding lanes Cases numbersOf badLane laneCheck
-    laneNumber changeLineNumber sessionAfter firstOf cutsOf cover planNumber
+    laneNumber changeLineNumber sessionAfter firstOf cutsOf cover minimumCheck planNumber
     legalPlan fitsTuples fitsRows tuplesLength rowsLength lengthsNumber
 lanes-hold = (refl, (refl, (refl, tt)))
+
+-- `least` lines: one before the lane lines, four between them, of which two are out of range, and four after them
+abbrev fewest : List Line
+fewest =
+    Least 30
+    ∷ (lane 34
+    ∷ (Least 0
+    ∷ (Least 15
+    ∷ (Least 1440
+    ∷ (Least 1441 ∷ (lane 99999999 ∷ (Least 15 ∷ (Least 0 ∷ (Least 1441 ∷ (Least 1440 ∷ []))))))))))
+
+-- the session after lines
+sessionOf : Stores → Session → List Line → Session
+sessionOf S s [] = s
+sessionOf S s (l ∷ ls) = sessionOf S (sessionAfter s l S) ls
+
+leasts : List (Stores × List Line × List ℕ)
+leasts = (blankOf 2, fewest, 0 ∷ (0 ∷ (18 ∷ (0 ∷ (0 ∷ (18 ∷ (0 ∷ (16 ∷ (16 ∷ (16 ∷ (16 ∷ []))))))))))) ∷ []
+
+-- 18 out of range, 16 for each once the plan is complete; and "the last accepted one counts", 1 where there is none
+leasts-hold :
+    Cases leasts
+    × (planOf (sessionOf (blankOf 2) fresh fewest) .minimum ≡ 1440)
+    × (planOf (sessionOf (blankOf 2) fresh (lane 34 ∷ (Least 0 ∷ (lane 99999999 ∷ (Least 15 ∷ []))))) .minimum ≡ 1)
+unfolding leasts Cases numbersOf sessionOf badLane laneCheck leastCheck
+    laneNumber sessionAfter firstOf cutsOf cover minimumCheck planNumber
+    legalPlan fitsTuples fitsRows tuplesLength rowsLength lengthsNumber
+leasts-hold = ((refl, tt), refl, refl)
 
 -- changes on an empty wall: an insert, a delete, an item number above 999,999, a span that ends before it starts; and
 -- one past the calendar, which no line has (`numbers-met`) but a direct caller may hand over
@@ -95,7 +124,8 @@ changes = (blankOf 1, some, 0 ∷ (0 ∷ (11 ∷ (7 ∷ (8 ∷ (17 ∷ [])))))) 
 
 changes-hold : Cases changes
 unfolding changes Cases numbersOf badLane laneCheck laneNumber changeLineNumber sessionAfter firstOf cutsOf cover
-    planNumber legalPlan home homeOf fitsTuples fitsRows tuplesLength rowsLength lengthsNumber counted recordsIn
-    tuplesIn rowsIn soundPart soundTuplePart soundRowPart soundTuples soundRows tuplesUnsound rowsUnsound storeNumber
-    labelCheck itemCheck validCheck tupleNumber insertNumber deleteNumber overfull made madeWith storedTuples rowsAt
+    minimumCheck planNumber legalPlan home homeOf fitsTuples fitsRows tuplesLength rowsLength lengthsNumber counted
+    recordsIn tuplesIn rowsIn soundPart soundTuplePart soundRowPart soundTuples soundRows tuplesUnsound rowsUnsound
+    storeNumber labelCheck itemCheck validCheck tupleNumber insertNumber deleteNumber overfull made madeWith
+    storedTuples rowsAt
 changes-hold = (refl, tt)

@@ -1,4 +1,5 @@
--- Steps keep the lengths of the lent stores: of one that is refused, of an opened wall, of an accepted call.
+-- Steps keep the lengths of the lent stores: of one that is refused, of a `least` line, of an opened wall, of an
+-- accepted call.
 -- Assumes nothing.
 use mathlib.Core.List.{List, _∷_}
 use mathlib.Core.Logic.{⊎-elim}
@@ -33,7 +34,7 @@ use Rattle.join.proofs.ChangeCalls.{checked}
 use Rattle.lines.specs.declared.Word.{Word}
 use Rattle.lines.specs.declared.Word.the-variants.{DrawIn, DrawOut, SpotIn, SpotOut}
 use Rattle.lines.specs.declared.Line.{Line}
-use Rattle.lines.specs.declared.Line.the-variants.{Lane, Change, Malformed}
+use Rattle.lines.specs.declared.Line.the-variants.{Lane, Least, Change, Malformed}
 use Rattle.session_plan.specs.Lanes.{planOf, usedTuples, usedRows}
 use Rattle.session_plan.specs.declared.Session.{Session}
 use Rattle.session_plan.proofs.Plans.{Good}
@@ -173,6 +174,7 @@ lane-long s m S S′ h =
 taken-long : (s : Session) (line : Line) (S S′ : Stores) → length (s .lasts) ≡ mostPartitions → Taken s line S S′
     → SameLong S S′
 taken-long s (Lane m) S S′ places h = lane-long s m S S′ h
+taken-long s (Least n) S S′ places h = long-kept S S′ h
 taken-long s (Change w t) S S′ places h = changed-long s w t S S′ places h
 taken-long s Malformed S S′ places h = absurd h
 

@@ -21,6 +21,7 @@ use Rattle.interval.specs.Time.{calendarEnd}
 use Rattle.interval.specs.Tuple.{itemEnd, from, to, tupleNumber, itemCheck, validCheck, sameTuple}
 use Rattle.interval.specs.declared.time.Chronon.{Chronon}
 use Rattle.interval.specs.declared.tuple.Tuple.{Tuple}
+use Rattle.plan.specs.Plan.{mostMinimum, outside, minimumCheck}
 use Rattle.plan.specs.declared.Partitioning.{Partitioning}
 use Rattle.store.specs.Store.{fitsTuples, fitsRows, storedTuples, storedRows}
 use Rattle.store.proofs.StoreLoops.{given-tuples, given-rows}
@@ -36,9 +37,10 @@ use Rattle.lines.specs.Line.{lineOf}
 use Rattle.lines.specs.declared.Word.{Word}
 use Rattle.lines.specs.declared.Word.the-variants.{DrawIn, DrawOut, SpotIn, SpotOut}
 use Rattle.lines.specs.declared.Line.{Line}
-use Rattle.lines.specs.declared.Line.the-variants.{Lane, Change, Malformed}
+use Rattle.lines.specs.declared.Line.the-variants.{Lane, Least, Change, Malformed}
 use Rattle.lines.proofs.Printed.{ChangeBounds, line-change-bounds}
-use Rattle.session_plan.specs.Lanes.{planOf, withLane, usedTuples, usedRows, wallTupleWords, badLane, laneCheck}
+use Rattle.session_plan.specs.Lanes.{planOf, withLane, usedTuples, usedRows, wallTupleWords}
+use Rattle.session_plan.specs.Lanes.{badLane, laneCheck, leastCheck}
 use Rattle.session_plan.specs.declared.Session.{Session}
 use Rattle.session_plan.proofs.Lanes.{lane-passed}
 use Rattle.session_plan.proofs.Plans.{Good, good-with, plan-legal}
@@ -108,9 +110,12 @@ among-more (x ∷ xs) ys h n e =
     (λ q. among-more xs ys (and-right (among ys x) (all (among ys) xs) h) n (rw q at e))
     (bool-cases (eqb n x))
 
--- those that a lane line may get, and a change on a sound wall
+-- those that a lane line may get, a `least` line, and a change on a sound wall
 abbrev pub laneNumbers : List ℕ
 laneNumbers = 0 ∷ (2 ∷ (16 ∷ []))
+
+abbrev pub leastNumbers : List ℕ
+leastNumbers = 0 ∷ (16 ∷ (18 ∷ []))
 
 abbrev pub changeNumbers : List ℕ
 changeNumbers = 0 ∷ (7 ∷ (8 ∷ (9 ∷ (10 ∷ (11 ∷ (12 ∷ (16 ∷ [])))))))
@@ -150,6 +155,15 @@ module _ (s : Session) (m : Chronon) (S : Stores) (g : Good s) (y : EightPartiti
 
   pub lane-met : among laneNumbers (laneNumber s m S) ≡ true
   lane-met = rw lane-number-is check-met
+
+-- ---- a `least` line
+
+pub least-met : (s : Session) (n : ℕ) → among leastNumbers (leastCheck s n) ≡ true
+unfolding leastCheck minimumCheck
+least-met s n =
+    first-met (among leastNumbers) _ refl
+    (and-both _ _ (refuse-ok (among leastNumbers) (s .complete) 16 refl refl)
+    (and-both _ _ (refuse-ok (among leastNumbers) (outside 1 mostMinimum n) 18 refl refl) refl))
 
 -- ---- a change that was read from a line
 
@@ -229,19 +243,22 @@ module _ (s : Session) (w : Word) (t : Tuple) (S : Stores) (g : Good s) (y : Eig
 
 -- ---- a line
 
--- "The program can meet 2, 7 to 11, 15 and 16"; 5 and 12 only with a store that others wrote in
+-- "The program can meet 2, 7 to 11, 15 and 16", and 18 of a `least` line (document 02, (f)); 5 and 12 only with a store
+-- that others wrote in
 abbrev pub stepNumbers : List ℕ
-stepNumbers = 0 ∷ (2 ∷ (5 ∷ (7 ∷ (8 ∷ (9 ∷ (10 ∷ (11 ∷ (12 ∷ (15 ∷ (16 ∷ []))))))))))
+stepNumbers = 0 ∷ (2 ∷ (5 ∷ (7 ∷ (8 ∷ (9 ∷ (10 ∷ (11 ∷ (12 ∷ (15 ∷ (16 ∷ (18 ∷ [])))))))))))
 
 -- the reader gives legal labels and numbers of at most eight digits
 abbrev pub Bounded : Line → Type 0
 Bounded (Lane m) = Unit {0}
+Bounded (Least n) = Unit {0}
 Bounded (Change w t) = ChangeBounds t
 Bounded Malformed = Unit {0}
 
 pub step-met : (s : Session) (line : Line) (S : Stores) → Good s → EightPartitions S → Bounded line
     → among stepNumbers (stepNumber s line S) ≡ true
 step-met s (Lane m) S g y l = among-more laneNumbers stepNumbers refl (laneNumber s m S) (lane-met s m S g y)
+step-met s (Least n) S g y l = among-more leastNumbers stepNumbers refl (leastCheck s n) (least-met s n)
 step-met s (Change w t) S g y l =
     among-more (5 ∷ changeNumbers) stepNumbers refl (changeLineNumber s w t S) (change-met s w t S g y l)
 step-met s Malformed S g y l = refl
@@ -259,6 +276,7 @@ eight-partitions-as S S′ l y = record {
 -- the lines that the reader gives
 bounded-by : (line : Line) → ((w : Word) (t : Tuple) → line ≡ Change w t → ChangeBounds t) → Bounded line
 bounded-by (Lane m) h = tt
+bounded-by (Least n) h = tt
 bounded-by (Change w t) h = h w t refl
 bounded-by Malformed h = tt
 

@@ -10,11 +10,11 @@ use borrow.Author.Tests.{eqb-true, eqb-false}
 use Rattle.lists.proofs.Choice.{bool-cases, first-none}
 use Rattle.checks.specs.Stores.{Stores}
 use Rattle.lines.specs.declared.Line.{Line}
-use Rattle.lines.specs.declared.Line.the-variants.{Lane, Change, Malformed}
+use Rattle.lines.specs.declared.Line.the-variants.{Lane, Least, Change, Malformed}
 use Rattle.session_plan.specs.Lanes.{fresh, laneCheck}
 use Rattle.session_plan.specs.declared.Session.{Session}
 use Rattle.session_plan.proofs.Lanes.{lane-passed}
-use Rattle.session_plan.proofs.Plans.{Good, good-fresh, good-with}
+use Rattle.session_plan.proofs.Plans.{Good, good-fresh, good-with, good-least}
 use Rattle.session.specs.Session.{laneNumber, stepNumber, sessionWith, sessionAfter, SteppedBy}
 use Rattle.session.specs.declared.Stepped.{Stepped}
 use Rattle.session.proofs.Steps.{after-refused, after-accepted}
@@ -33,6 +33,7 @@ unfolding laneNumber
 accepted-good s (Lane m) S g z =
     let p = lane-passed s (m .0) (first-none (laneCheck s (m .0)) _ z .0) in
     good-with s m g (p .1) (p .0)
+accepted-good s (Least n) S g z = good-least s n g z
 accepted-good s (Change w t) S g z = g
 accepted-good s Malformed S g z = g
 

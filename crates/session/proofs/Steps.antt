@@ -12,8 +12,8 @@ use Rattle.interval.specs.declared.tuple.Tuple.{Tuple}
 use Rattle.checks.specs.Stores.{Stores}
 use Rattle.lines.specs.declared.Word.{Word}
 use Rattle.lines.specs.declared.Line.{Line}
-use Rattle.lines.specs.declared.Line.the-variants.{Lane, Change, Malformed}
-use Rattle.session_plan.specs.Lanes.{withLane, grown, laneCheck}
+use Rattle.lines.specs.declared.Line.the-variants.{Lane, Least, Change, Malformed}
+use Rattle.session_plan.specs.Lanes.{withLane, grown, withMinimum, laneCheck, leastCheck}
 use Rattle.session_plan.specs.declared.Session.{Session}
 use Rattle.session_plan.proofs.Lanes.{lane-passed, lane-added}
 use Rattle.session.specs.Session.{laneNumber, stepNumber, sessionWith}
@@ -77,6 +77,16 @@ change-step s w t S S′ n h = record {
   refused = λ ne. (refl, h .refused ne);
   accepted = h .accepted;
 }
+
+-- ---- a `least` line
+
+module _ (s : Session) (minimum : ℕ) (S : Stores) (n : ℕ) (e : n ≡ leastCheck s minimum) where
+  pub least-refused : (n ≡ 0 → ⊥) → SteppedBy s (Least minimum) S S (stepped s n)
+  least-refused ne = step-refused s (Least minimum) S S n e ne refl
+
+  pub least-step : n ≡ 0 → (after : Session) → after ≡ withMinimum s minimum
+      → SteppedBy s (Least minimum) S S (stepped after 0)
+  least-step z after w = step-accepted s (Least minimum) S S after (sym z ∙ e) w refl
 
 -- ---- a lane line
 

@@ -1,6 +1,6 @@
 -- The program's work on one line (document 01, "Lines and the program"): the words of the lent stores that a session
 -- uses, the number that a line gets, and what a line leaves. The session, its plan, how many words its lanes use and
--- the checks of a lane line are in crate `session_plan`.
+-- the checks of a lane line and of a `least` line are in crate `session_plan`.
 -- The laws are in proofs/: Reached (the sessions that steps reach), Numbers (the numbers that they meet).
 use mathlib.Core.Bool.{not}
 use mathlib.Core.List.{[], _∷_}
@@ -25,8 +25,9 @@ use Rattle.lines.specs.Line.{lineNumber}
 use Rattle.lines.specs.declared.Word.{Word}
 use Rattle.lines.specs.declared.Word.the-variants.{DrawIn, DrawOut, SpotIn, SpotOut}
 use Rattle.lines.specs.declared.Line.{Line}
-use Rattle.lines.specs.declared.Line.the-variants.{Lane, Change, Malformed}
-use Rattle.session_plan.specs.Lanes.{planOf, withLane, usedTuples, usedRows, wallTupleWords, wallRowWords, laneCheck}
+use Rattle.lines.specs.declared.Line.the-variants.{Lane, Least, Change, Malformed}
+use Rattle.session_plan.specs.Lanes.{planOf, withLane, withMinimum, usedTuples, usedRows, wallTupleWords, wallRowWords}
+use Rattle.session_plan.specs.Lanes.{laneCheck, leastCheck}
 use Rattle.session_plan.specs.declared.Session.{Session}
 use Rattle.session.specs.declared.Stepped.{Stepped}
 
@@ -95,12 +96,14 @@ changeLineNumber s w t S =
 -- a line that is not of the form has a number of its own, whatever the session
 abbrev pub stepNumber : Session → Line → Stores → ℕ
 stepNumber s (Lane m) S = laneNumber s m S
+stepNumber s (Least n) S = leastCheck s n
 stepNumber s (Change w t) S = changeLineNumber s w t S
 stepNumber s Malformed S = lineNumber Malformed
 
 -- the session that a line makes where it is accepted
 abbrev pub sessionWith : Session → Line → Session
 sessionWith s (Lane m) = withLane s m
+sessionWith s (Least n) = withMinimum s n
 sessionWith s (Change w t) = s
 sessionWith s Malformed = s
 
@@ -126,8 +129,10 @@ pub record LaneTaken (s : Session) (m : Chronon) (S S′ : Stores) : Type 0 wher
   pub between : (m .0 ≡ calendarEnd → ⊥) → S′ ≡ S
   pub completing : m .0 ≡ calendarEnd → WallOpened (withLane s m) S S′
 
+-- a `least` line leaves every word as it was
 abbrev pub Taken : Session → Line → Stores → Stores → Type 0
 Taken s (Lane m) S S′ = LaneTaken s m S S′
+Taken s (Least n) S S′ = S′ ≡ S
 Taken s (Change w t) S S′ = WallChanged s w t S S′
 Taken s Malformed S S′ = ⊥
 

@@ -1,13 +1,13 @@
-// The program's work on one line (document 01, "Lines and the program"): lane lines make the plan, the one with
-// 99999999 opens the wall, and then changes go to the join. Nothing has to be checked before calling: every line gets
-// the first number of document 01's table that applies, for any session and any lent words. A refused line changes
-// nothing. The lent stores may be longer than the plan needs: the words beyond the plan's lanes are neither read nor
-// written. The definitions are in specs/Session.antt; the session, its plan and the checks of a lane line are in
-// `session_plan`. Cost: that of the call on the join.
+// The program's work on one line (document 01, "Lines and the program"): lane lines and `least` lines make the plan,
+// the lane with 99999999 opens the wall, and then changes go to the join. Nothing has to be checked before calling:
+// every line gets the first number of document 01's table that applies, for any session and any lent words. A refused
+// line changes nothing. The lent stores may be longer than the plan needs: the words beyond the plan's lanes are
+// neither read nor written. The definitions are in specs/Session.antt; the session, its plan and the checks of a lane
+// line and of a `least` line are in `session_plan`. Cost: that of the call on the join.
 ghost use mathlib.Core.Path.{_≡_};
-ghost use Rattle.checks.specs.Stores.{stores};
+ghost use Rattle.checks.specs.Stores.{Stores, stores};
 ghost use Rattle.lines.specs.Line.{lineOf};
-ghost use Rattle.lines.specs.declared.Line.the-variants.{Lane};
+ghost use Rattle.lines.specs.declared.Line.the-variants.{Lane, Least};
 ghost use Rattle.session.specs.Session.{kindOf, sideOf, WallOpening, WallChanging, SteppedBy};
 use interval::time::CALENDAR_END;
 use interval::time::Chronon;
@@ -71,6 +71,23 @@ fn take_lane(
     }
     Stepped {
         session: after,
+        number: 0,
+    }
+}
+
+// A `least` line: no store is read or written.
+fn take_least(s: Session, minimum: u64) -> Stepped
+    ensures { λ r. ⌜ ((S : Stores) → SteppedBy s (Least minimum) S S r) ⌝ }
+{
+    let refusal = session_plan::least_check(s, minimum);
+    if refusal != 0 {
+        return Stepped {
+            session: s,
+            number: refusal,
+        };
+    }
+    Stepped {
+        session: session_plan::with_minimum(s, minimum),
         number: 0,
     }
 }
@@ -147,6 +164,7 @@ pub fn step_value(
 {
     match line {
         Line::Lane(m) => take_lane(s, m, outer, inner, rows),
+        Line::Least(minimum) => take_least(s, minimum),
         Line::Change(word, t) => {
             let number = change_on(s, word, t, outer, inner, rows);
             Stepped { session: s, number }

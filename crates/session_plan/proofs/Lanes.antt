@@ -1,20 +1,22 @@
--- Lane lines: what may be the next lane, the check that answers, and the session with one lane more.
+-- Lane lines: what may be the next lane, the check that answers, and the session with one lane more; and the check that
+-- answers a `least` line.
 -- Assumes nothing.
 use mathlib.Core.Bool.{Bool, true, false, not, _&&_, _||_, and-false}
 use mathlib.Core.List.{[]}
 use mathlib.Core.Logic.{⊎-elim}
-use mathlib.Core.Path.{_≡_, sym}
+use mathlib.Core.Path.{_≡_, sym, _∙_}
 use Prim.Native.Nat.{ℕ, _-_, _≤_, _<_}
 use lib.Dec.{leb, ltb, eqb}
 use lib.ListN.{List·getD-map}
 use borrow.Author.Tests.{leb-false, le-leb, lt-leb, lt-ltb, le-ltb, eq-eqb, ne-eqb, eqb-true, not-false}
 use Rattle.lists.specs.Choice.{refuseIf, firstOf}
 use Rattle.lists.proofs.Choice.{and-both, or-left, or-right, or-none, or-neither-left, or-neither-right}
-use Rattle.lists.proofs.Choice.{first-none, refuse-none, pick-true, pick-false}
+use Rattle.lists.proofs.Choice.{first-none, refuse-none, first-next, answer-last, pick-true, pick-false}
 use Rattle.interval.specs.Time.{calendarEnd}
 use Rattle.interval.specs.declared.time.Chronon.{Chronon}
-use Rattle.plan.proofs.Homes.{le-or-lt, readAt}
-use Rattle.session_plan.specs.Lanes.{wallPartitions, withLane, grown, lastCut, badLane, laneCheck}
+use Rattle.plan.specs.Plan.{mostMinimum, minimumCheck}
+use Rattle.plan.proofs.Homes.{le-or-lt, minimum-is, readAt}
+use Rattle.session_plan.specs.Lanes.{wallPartitions, withLane, grown, lastCut, badLane, laneCheck, leastCheck}
 use Rattle.session_plan.specs.declared.Session.{Session}
 
 -- the last minute of the lane before, as the code reads it
@@ -124,3 +126,25 @@ lane-added s m h =
 pub lane-beyond : (s : Session) (m : Chronon) → wallPartitions ≤ s .lanes → s ≡ grown s m
 lane-beyond s m h =
     sym (pick-false (ltb (s .lanes) wallPartitions) (withLane s m) s (le-ltb (s .lanes) wallPartitions h))
+
+-- ---- a `least` line
+
+module _ (s : Session) (n : ℕ) where
+  -- the check that answers: 16 once the plan is complete, else the number's own
+  pub least-late : s .complete ≡ true → 16 ≡ leastCheck s n
+  unfolding leastCheck firstOf
+  least-late e = rw e
+
+  pub least-open : (r : ℕ) → s .complete ≡ false → r ≡ minimumCheck n → r ≡ leastCheck s n
+  unfolding leastCheck
+  least-open r e h = answer-last h ∙ sym (first-next (refuseIf (s .complete) 16) _ (rw e))
+
+  -- a `least` line that no check refuses
+  pub least-passed : leastCheck s n ≡ 0 → (s .complete ≡ false) × ((1 ≤ n) × (n ≤ mostMinimum))
+  unfolding leastCheck
+  least-passed e =
+      let a = first-none (refuseIf (s .complete) 16) _ e in
+      let b = first-none (minimumCheck n) [] (a .1) in (
+        refuse-none (s .complete) 15 (a .0),
+        minimum-is n (b .0),
+      )

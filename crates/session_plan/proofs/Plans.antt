@@ -1,6 +1,6 @@
--- What sessions that began with `fresh` are like (`Good`), that a lane more keeps it, and that a complete one's plan is
--- legal. So the plan's checks never refuse a change in such a session, and a ninth lane never comes up. That every step
--- keeps it is in `session`.
+-- What sessions that began with `fresh` are like (`Good`), that a lane more and an accepted `least` line keep it, and
+-- that a complete one's plan is legal. So the plan's checks never refuse a change in such a session, and a ninth lane
+-- never comes up. That every step keeps it is in `session`.
 -- Assumes nothing.
 use mathlib.Core.Bool.{Bool, true, false, _&&_, true≢false}
 use mathlib.Core.Logic.{⊎-elim}
@@ -15,13 +15,13 @@ use borrow.Author.Tests.{lt-ltb, eqb-true, eqb-false, ltb-true, eq-eqb}
 use Rattle.lists.proofs.Choice.{and-left, and-right}
 use Rattle.interval.specs.Time.{calendarEnd}
 use Rattle.interval.specs.declared.time.Chronon.{Chronon}
-use Rattle.plan.specs.Plan.{mostPartitions, cutsOf, cover, planNumber}
+use Rattle.plan.specs.Plan.{mostPartitions, mostMinimum, cutsOf, cover, planNumber}
 use Rattle.plan.proofs.Homes.{le-or-lt, readAt}
 use Rattle.plan.proofs.Homes.{plan-legal as legal-number}
 use Rattle.plan.proofs.PlanLoops.{Rising, rising-start, rising-step, rising-end}
-use Rattle.session_plan.specs.Lanes.{wallPartitions, fresh, planOf, withLane, lastCut}
+use Rattle.session_plan.specs.Lanes.{wallPartitions, fresh, planOf, withLane, withMinimum, lastCut, leastCheck}
 use Rattle.session_plan.specs.declared.Session.{Session}
-use Rattle.session_plan.proofs.Lanes.{last-cut, NextLane}
+use Rattle.session_plan.proofs.Lanes.{last-cut, NextLane, least-passed}
 
 -- the last minute of lane i, counted from 0
 abbrev pub cutAt : Session → ℕ → ℕ
@@ -37,6 +37,9 @@ pub record Good (s : Session) : Type 0 where
   pub before : (i : ℕ) → i + 1 < s .lanes → cutAt s i ≡ calendarEnd → ⊥
   -- an eighth lane completes it
   pub eighth : wallPartitions ≤ s .lanes → s .complete ≡ true
+  -- the minimum is a legal plan's
+  pub minimum-least : 1 ≤ s .minimum
+  pub minimum-most : s .minimum ≤ mostMinimum
 
 -- ---- at the start
 
@@ -48,6 +51,8 @@ good-fresh = record {
   ended = refl;
   before = λ i h e. absurd (omega arith);
   eighth = λ h. absurd (omega arith);
+  minimum-least = omega arith;
+  minimum-most = omega arith;
 }
 
 -- ---- one lane more
@@ -116,7 +121,25 @@ module _ (s : Session) (m : Chronon) (g : Good s) (n : NextLane s (m .0)) where
     ended = new-ended;
     before = new-before u;
     eighth = λ h. eq-eqb (m .0) calendarEnd (n .eighth (omega arith));
+    minimum-least = g .minimum-least;
+    minimum-most = g .minimum-most;
   }
+
+-- ---- another minimum
+
+pub good-least : (s : Session) (n : ℕ) → Good s → leastCheck s n ≡ 0 → Good (withMinimum s n)
+good-least s n g e =
+    let p = least-passed s n e in
+    record {
+      places = g .places;
+      most = g .most;
+      rises = g .rises;
+      ended = g .ended;
+      before = g .before;
+      eighth = g .eighth;
+      minimum-least = p .1 .0;
+      minimum-most = p .1 .1;
+    }
 
 -- ---- a complete session's plan is legal
 
@@ -156,6 +179,8 @@ module _ (s : Session) (g : Good s) (done : s .complete ≡ true) where
         tuples-most = omega arith;
         rows-least = omega arith;
         rows-most = omega arith;
+        minimum-least = g .minimum-least;
+        minimum-most = g .minimum-most;
       })
 
 -- one that is not complete has room for the lane that completes it

@@ -1,7 +1,8 @@
--- The plan that lane lines make (document 01, "Lines and the program"): the session, its plan, the words of the lent
--- stores that its lanes use, and the checks of a lane line.
--- The laws are in proofs/: Lanes (what may be the next lane), Plans (sessions from `fresh`, their plans), Words (the
--- words in use of one store). What a line does, with these, is in crate `session`.
+-- The plan that lane lines and `least` lines make (document 01, "Lines and the program"; document 02, (f)): the
+-- session, its plan, the words of the lent stores that its lanes use, and the checks of a lane line and of a `least`
+-- line.
+-- The laws are in proofs/: Lanes (what may be the next lane, and the next minimum), Plans (sessions from `fresh`,
+-- their plans), Words (the words in use of one store). What a line does, with these, is in crate `session`.
 use mathlib.Core.Bool.{Bool, false, not, _&&_, _||_}
 use mathlib.Core.List.{[], _∷_}
 use Prim.Native.Nat.{ℕ, _+_, _-_, _*_, min}
@@ -11,7 +12,7 @@ use Rattle.lists.specs.Choice.{pick, refuseIf, firstOf}
 use Rattle.interval.specs.Time.{calendarEnd}
 use Rattle.interval.specs.Tuple.{tupleWidth, rowWidth}
 use Rattle.interval.specs.declared.time.Chronon.{Chronon}
-use Rattle.plan.specs.Plan.{mostPartitions, numbers}
+use Rattle.plan.specs.Plan.{mostPartitions, numbers, minimumCheck}
 use Rattle.plan.specs.declared.Partitioning.{Partitioning}
 use Rattle.part.specs.Part.{roomOf}
 use Rattle.store.specs.Store.{tupleRoom, rowRoom}
@@ -33,25 +34,36 @@ wallRows = 64
 abbrev pub wallRowsMost : ℕ
 wallRowsMost = wallPartitions * wallRows
 
--- before the first line: no lane, and 0 in every place
+-- before the first line: no lane, and 0 in every place; "The program uses 1 until a line `least,NUMBER`"
 abbrev pub fresh : Session
-fresh = record { lanes = 0; lasts = replicate mostPartitions (record { 0 = 0 }); complete = false }
+fresh = record { lanes = 0; lasts = replicate mostPartitions (record { 0 = 0 }); minimum = 1; complete = false }
 
 -- the plan that the lanes taken so far make
 abbrev pub planOf : Session → Partitioning
-planOf s = record { count = s .lanes; lasts = s .lasts; tuples = wallTuples; rows = wallRows }
+planOf s = record {
+  count = s .lanes;
+  lasts = s .lasts;
+  tuples = wallTuples;
+  rows = wallRows;
+  minimum = s .minimum;
+}
 
 -- the session with one lane more; "the line with 99999999 completes the plan"
 abbrev pub withLane : Session → Chronon → Session
 withLane s m = record {
   lanes = s .lanes + 1;
   lasts = set (s .lasts) (s .lanes) m;
+  minimum = s .minimum;
   complete = eqb (m .0) calendarEnd;
 }
 
 -- the same where there is room for a lane more: with 8 there is none
 abbrev pub grown : Session → Chronon → Session
 grown s m = pick (ltb (s .lanes) wallPartitions) (withLane s m) s
+
+-- the session with that minimum: "the last accepted one counts"
+abbrev pub withMinimum : Session → ℕ → Session
+withMinimum s n = record { lanes = s .lanes; lasts = s .lasts; minimum = n; complete = s .complete }
 
 -- ---- the words in use: the first of each lent store, as many as the plan's lanes need, or all where there are fewer
 
@@ -88,3 +100,9 @@ badLane s m =
 -- 16 for "a lane line after" the plan is complete, which comes before all others; then 2
 unfoldable pub laneCheck : Session → ℕ → ℕ
 laneCheck s m = firstOf (refuseIf (s .complete) 16 ∷ (refuseIf (badLane s m) 2 ∷ []))
+
+-- ---- a `least` line
+
+-- "which gets 16 once the plan is complete"; "Such a line with a number out of range gets 18, after 15 and 16."
+unfoldable pub leastCheck : Session → ℕ → ℕ
+leastCheck s n = firstOf (refuseIf (s .complete) 16 ∷ (minimumCheck n ∷ []))

@@ -1,10 +1,12 @@
-// The plan that lane lines make (document 01, "Lines and the program"): the lanes taken so far, the plan of them, the
-// words of the lent stores that they use, the checks of a lane line, and the session with one lane more. Nothing has to
-// be checked before calling: every answer is a definition's, for any session. No store is read or written: what a line
-// does with the session and the stores is in `session`. The definitions are in specs/Lanes.antt.
+// The plan that lane lines and `least` lines make (document 01, "Lines and the program"; document 02, (f)): the lanes
+// taken so far, the plan of them, the words of the lent stores that they use, the checks of a lane line and of a
+// `least` line, and the session with one lane more or with another minimum. Nothing has to be checked before calling:
+// every answer is a definition's, for any session. No store is read or written: what a line does with the session and
+// the stores is in `session`. The definitions are in specs/Lanes.antt.
 ghost use mathlib.Core.Path.{_≡_};
 ghost use Prim.Native.Nat.{min};
-ghost use Rattle.session_plan.specs.Lanes.{fresh, planOf, grown, usedPartitions, usedTuples, usedRows, laneCheck};
+ghost use Rattle.session_plan.specs.Lanes.{fresh, planOf, grown, withMinimum, usedPartitions, usedTuples};
+ghost use Rattle.session_plan.specs.Lanes.{usedRows, laneCheck, leastCheck};
 use interval::time::CALENDAR_END;
 use interval::time::Chronon;
 use interval::tuple::ROW_WIDTH;
@@ -33,13 +35,18 @@ pub const TUPLE_WORDS: usize = PARTITIONS as usize * TUPLE_ROOM;
 
 pub const ROW_WORDS: usize = PARTITIONS as usize * ROW_ROOM;
 
-// The number of a lane line after the plan is complete, and of a change before it is.
+// The number of a lane line or a `least` line after the plan is complete, and of a change before it is.
 pub const OUT_OF_TURN: u64 = 16;
 
-// The lane lines taken so far, the last minute of each, and whether the last one completed the plan.
+// The minimum of a session before its first `least` line.
+const FIRST_MINIMUM: u64 = 1;
+
+// The lane lines taken so far, the last minute of each, the fewest minutes of a row, and whether the last lane line
+// completed the plan.
 pub struct Session {
     pub lanes: u64,
     pub lasts: [Chronon; PLACES],
+    pub minimum: u64,
     pub complete: bool,
 }
 
@@ -50,6 +57,7 @@ pub fn start() -> Session
     Session {
         lanes: 0,
         lasts: [Chronon(0); PLACES],
+        minimum: FIRST_MINIMUM,
         complete: false,
     }
 }
@@ -64,6 +72,7 @@ pub fn plan_of(s: Session) -> Partitioning
         lasts,
         tuples: TUPLES,
         rows: ROWS,
+        minimum: s.minimum,
     }
 }
 
@@ -135,9 +144,35 @@ pub fn with_lane(s: Session, m: Chronon) -> Session
     let at = s.lanes as usize;
     let mut lasts = s.lasts;
     lasts[at] = m;
+    let kept = s.minimum;
     Session {
         lanes: s.lanes + 1,
         lasts,
+        minimum: kept,
         complete: m.0 == CALENDAR_END,
+    }
+}
+
+// The checks of a `least` line: 16 once the plan is complete, 18 for a number out of range.
+pub fn least_check(s: Session, minimum: u64) -> u64
+    ensures { λ r. ⌜ r ≡ leastCheck s minimum ⌝ }
+{
+    let complete = s.complete;
+    if complete {
+        return OUT_OF_TURN;
+    }
+    plan::minimum_check(minimum)
+}
+
+// The session with that minimum.
+pub fn with_minimum(s: Session, minimum: u64) -> Session
+    ensures { λ r. ⌜ r ≡ withMinimum s minimum ⌝ }
+{
+    let lasts = s.lasts;
+    Session {
+        lanes: s.lanes,
+        lasts,
+        minimum,
+        complete: s.complete,
     }
 }

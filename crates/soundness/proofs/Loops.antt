@@ -15,15 +15,14 @@ use Rattle.lists.specs.Words.{partAt, zeros, recordsOf, recordAt}
 use Rattle.lists.proofs.Parts.{start-next, start-within}
 use Rattle.lists.proofs.Members.{all-cong, all-end, all-next, all-stop}
 use Rattle.lists.proofs.Records.{length-records, record-at}
-use Rattle.interval.specs.Tuple.{tupleWidth, tupleOf, to, tupleNumber, legalTuple}
-use Rattle.interval.specs.Tuple.{rowWidth, rowOf, rowTo, rowNumber, legalRow}
+use Rattle.interval.specs.Tuple.{tupleWidth, tupleOf, to, legalTuple, rowWidth, rowOf, rowTo, legalRow}
 use Rattle.interval.specs.declared.tuple.Tuple.{Tuple}
 use Rattle.interval.specs.declared.tuple.Row.{Row}
 use Rattle.plan.specs.Plan.{cutsOf, home, startOf}
 use Rattle.plan.specs.declared.Partitioning.{Partitioning}
 use Rattle.plan.proofs.Homes.{LegalPlan, home-test, start-next as cut-after}
 use Rattle.part.specs.Part.{roomOf, counted, recordsIn, tupleAt, rowAt, soundPart}
-use Rattle.store.specs.Store.{tupleAtHome, rowAtHome}
+use Rattle.store.specs.Store.{tupleAtHome}
 use Rattle.store.proofs.StoreLoops.{Turn, below-start, lent, lent-is}
 use Rattle.soundness.specs.Between.{legalBetween, recordBetween, recordAtHome}
 use Rattle.soundness.specs.declared.Records.{Records}
@@ -78,22 +77,23 @@ module _ (p : Partitioning) (i first last : ℕ) (legal : LegalPlan p) (within :
   home-between m = rw (starts, ends) (sym (home-test (cutsOf p) (legal .covered) i m within))
 
   pub between-home : (kind : Records) (ws : List ℕ) → recordBetween kind first last ws ≡ recordAtHome kind p i ws
-  unfolding recordBetween legalBetween tupleAtHome legalTuple rowAtHome legalRow
-  between-home Tuples ws = ap (λ (b : Bool). eqb (tupleNumber (tupleOf ws)) 0 && b) (home-between (to (tupleOf ws)))
-  between-home Rows ws = ap (λ (b : Bool). eqb (rowNumber (rowOf ws)) 0 && b) (home-between (rowTo (rowOf ws)))
+  unfolding recordBetween legalBetween tupleAtHome
+  between-home Tuples ws = ap (λ (b : Bool). legalTuple (tupleOf ws) && b) (home-between (to (tupleOf ws)))
+  between-home (Rows minimum) ws = ap (λ (b : Bool). legalRow minimum (rowOf ws) && b) (home-between (rowTo (rowOf ws)))
 
 -- ---- a record's words as it is read
 
-module _ (first last k n : ℕ) (part : List ℕ) where
-  pub tuple-read : (t : Tuple) → t ≡ tupleAt part k → n ≡ tupleNumber t
-      → legalBetween n (to t) first last ≡ recordBetween Tuples first last (recordAt tupleWidth k (drop 1 part))
+module _ (first last k : ℕ) (legal : Bool) (part : List ℕ) where
+  pub tuple-read : (t : Tuple) → t ≡ tupleAt part k → legal ≡ legalTuple t
+      → legalBetween legal (to t) first last ≡ recordBetween Tuples first last (recordAt tupleWidth k (drop 1 part))
   unfolding tupleAt recordBetween
   tuple-read t e d = rw (d, e)
 
-  pub row-read : (r : Row) → r ≡ rowAt part k → n ≡ rowNumber r
-      → legalBetween n (rowTo r) first last ≡ recordBetween Rows first last (recordAt rowWidth k (drop 1 part))
+  pub row-read : (minimum : ℕ) (r : Row) → r ≡ rowAt part k → legal ≡ legalRow minimum r
+      → legalBetween legal (rowTo r) first last
+      ≡ recordBetween (Rows minimum) first last (recordAt rowWidth k (drop 1 part))
   unfolding rowAt recordBetween
-  row-read r e d = rw (d, e)
+  row-read minimum r e d = rw (d, e)
 
 -- ---- fewer records take no more room
 

@@ -18,10 +18,11 @@ use interval::tuple::ROW_WIDTH;
 use interval::tuple::TUPLE_WIDTH;
 use plan::Partitioning;
 
-// What the records of a store are: said where the plan is known, so that what a plan asks of a record can go with it.
+// What the records of a store are: said where the plan is known, so that what a plan asks of a record can go with it,
+// the minutes of a row.
 enum Records {
     Tuples,
-    Rows,
+    Rows(u64),
 }
 
 // The bits that any of the eight words from place i has: 0 exactly if all eight are 0.
@@ -72,15 +73,15 @@ fn width(kind: Records) -> usize
 {
     match kind {
         Records::Tuples => TUPLE_WIDTH,
-        Records::Rows => ROW_WIDTH,
+        Records::Rows(_) => ROW_WIDTH,
     }
 }
 
-// Whether a record is legal, by the number that its checks gave, and its last chronon m is from `first` to `last`.
-fn legal_between(number: u64, m: Chronon, first: Chronon, last: Chronon) -> bool
-    ensures { λ r. ⌜ r ≡ legalBetween number (m .0) (first .0) (last .0) ⌝ }
+// Whether a record is legal, as told, and its last chronon m is from `first` to `last`.
+fn legal_between(legal: bool, m: Chronon, first: Chronon, last: Chronon) -> bool
+    ensures { λ r. ⌜ r ≡ legalBetween legal (m .0) (first .0) (last .0) ⌝ }
 {
-    if number != 0 {
+    if !legal {
         return false;
     }
     if m.0 < first.0 {
@@ -98,16 +99,13 @@ fn record_between(kind: Records, part: &[u64], k: usize, first: Chronon, last: C
     match kind {
         Records::Tuples => {
             let t = part::tuple_at(part, k);
-            legal_between(interval::tuple::tuple_number(t), t.valid.last, first, last)
+            let legal = interval::tuple::tuple_number(t) == 0;
+            legal_between(legal, t.valid.last, first, last)
         }
-        Records::Rows => {
+        Records::Rows(minimum) => {
             let row = part::row_at(part, k);
-            legal_between(
-                interval::tuple::row_number(row),
-                row.valid.last,
-                first,
-                last,
-            )
+            let legal = interval::tuple::legal_row(minimum, row);
+            legal_between(legal, row.valid.last, first, last)
         }
     }
 }
@@ -186,5 +184,11 @@ pub fn sound_rows(p: Partitioning, store: &[u64]) -> bool
     requires { ⌜ fitsRows p (length (now store)) ≡ true ⌝ }
     ensures { λ r. ⌜ r ≡ soundRows p (now (store .entry)) ⌝ }
 {
-    sound_parts(Records::Rows, p, p.rows as usize, store::row_room(p), store)
+    sound_parts(
+        Records::Rows(p.minimum),
+        p,
+        p.rows as usize,
+        store::row_room(p),
+        store,
+    )
 }

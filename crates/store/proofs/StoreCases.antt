@@ -10,11 +10,12 @@ use Prim.Native.Nat.{ℕ, _-_}
 use lib.ListN.{length, replicate}
 use Rattle.lists.specs.Choice.{firstOf}
 use Rattle.label.specs.Label.{labelCheck}
+use Rattle.interval.specs.Time.{durability, durable}
 use Rattle.interval.specs.Tuple.{tuple, row, tupleWidth, tupleWords, rowWidth, rowWords, itemCheck, validCheck}
 use Rattle.interval.specs.Tuple.{tupleNumber, legalTuple, rowNumber, legalRow}
 use Rattle.interval.specs.declared.tuple.Tuple.{Tuple}
 use Rattle.interval.specs.declared.tuple.Row.{Row}
-use Rattle.plan.specs.Plan.{cutsOf, cover, planNumber, legalPlan, homeOf, home}
+use Rattle.plan.specs.Plan.{cutsOf, cover, minimumCheck, planNumber, legalPlan, homeOf, home}
 use Rattle.plan.specs.declared.Partitioning.{Partitioning}
 use Rattle.part.specs.Part.{counted, recordsIn, tuplesIn, rowsIn, soundPart, appended, removed}
 use Rattle.store.specs.Store.{fitsTuples, fitsRows, onPartition, tuplePart, rowPart}
@@ -23,16 +24,25 @@ use Rattle.store.specs.Store.{storedTuples, storedRows, tuplesAt, rowsAt
 
 -- ---- the plan, in 64 places; those beyond its cuts hold 7; and stores of three partitions, written out
 
-abbrev plan : ℕ → List ℕ → ℕ → ℕ → Partitioning
-plan count cs tuples rows = record {
+-- with that minimum, and with 1
+abbrev lasting : ℕ → ℕ → List ℕ → ℕ → ℕ → Partitioning
+lasting minimum count cs tuples rows = record {
   count = count;
   lasts = map (λ (n : ℕ). record { 0 = n }) (cs ++ replicate (64 - length cs) 7);
   tuples = tuples;
   rows = rows;
+  minimum = minimum;
 }
+
+abbrev plan : ℕ → List ℕ → ℕ → ℕ → Partitioning
+plan count cs tuples rows = lasting 1 count cs tuples rows
 
 abbrev p : Partitioning
 p = plan 3 (34 ∷ (40 ∷ (99999999 ∷ []))) 2 1
+
+-- the same where a row lasts at least five minutes
+abbrev p5 : Partitioning
+p5 = lasting 5 3 (34 ∷ (40 ∷ (99999999 ∷ []))) 2 1
 
 -- plans that are not legal: no partition, cuts that fall, a tuple capacity of 513, a row capacity of 0
 abbrev none : Partitioning
@@ -104,7 +114,7 @@ row-lengths =
     ∷ []))))))))
 
 lengths-hold : Lengths fitsTuples tuple-lengths × Lengths fitsRows row-lengths
-unfolding Lengths tuple-lengths row-lengths firstOf cutsOf cover planNumber legalPlan fitsTuples fitsRows
+unfolding Lengths tuple-lengths row-lengths firstOf cutsOf cover minimumCheck planNumber legalPlan fitsTuples fitsRows
 lengths-hold = (
   (refl, (refl, (refl, (refl, (refl, (refl, (refl, (refl, (refl, tt))))))))),
   (refl, (refl, (refl, (refl, (refl, (refl, (refl, (refl, (refl, tt))))))))),
@@ -203,8 +213,8 @@ tuples-hold : Tuples true tuples-right
     × Tuples false illegals
     × Tuples false misfits
 unfolding Sounds tuples-right tuples-away counts tails illegals misfits firstOf labelCheck itemCheck validCheck
-    tupleNumber legalTuple cutsOf cover planNumber legalPlan homeOf home counted recordsIn soundPart fitsTuples
-    tupleAtHome soundTuplePart soundTuples
+    tupleNumber legalTuple cutsOf cover minimumCheck planNumber legalPlan homeOf home counted recordsIn soundPart
+    fitsTuples tupleAtHome soundTuplePart soundTuples
 tuples-hold = (
   (refl, (refl, (refl, (refl, (refl, (refl, (refl, (refl, (refl, (refl, tt)))))))))),
   (refl, (refl, (refl, (refl, (refl, (refl, tt)))))),
@@ -219,7 +229,8 @@ tuples-hold = (
 abbrev Rows : Bool → List (Partitioning × List ℕ) → Type 0
 Rows = Sounds fitsRows soundRows
 
--- no row; the first and the last chronon of each partition, a row that starts partitions before, all places taken
+-- no row; the first and the last chronon of each partition, a row that starts partitions before, all places taken; rows
+-- of five minutes and of six, where five are asked for
 rows-right : List (Partitioning × List ℕ)
 rows-right =
     (p, replicate 18 0)
@@ -230,11 +241,12 @@ rows-right =
     ∷ ((p, store no6 no6 (one6 38 11 2 41 41))
     ∷ ((p, store no6 no6 (one6 38 11 2 0 99999999))
     ∷ ((p, store (one6 38 10 1 30 31) (one6 217180147158 999999 999999 33 35) (one6 1 0 0 41 48))
-    ∷ [])))))))
+    ∷ ((p5, store (one6 38 10 1 30 34) (one6 38 10 1 35 40) no6)
+    ∷ []))))))))
 
 -- in the partition before, in the one after; a count above the capacity; a word that is not 0 after the counted rows,
--- the first and the last; rows that are not legal; zeros of another length, and of the length of a plan that is not
--- legal
+-- the first and the last; rows that are not legal, a row of four minutes where five are asked for among them; zeros of
+-- another length, and of the length of a plan that is not legal
 rows-wrong : List (Partitioning × List ℕ)
 rows-wrong =
     (p, store no6 (one6 38 10 1 30 34) no6)
@@ -251,18 +263,20 @@ rows-wrong =
     ∷ ((p, store (one6 38 1000000 1 30 34) no6 no6)
     ∷ ((p, store (one6 38 10 1000000 30 34) no6 no6)
     ∷ ((p, store no6 no6 (one6 38 10 1 41 100000000))
+    ∷ ((p5, store (one6 38 10 1 31 34) no6 no6)
     ∷ ((p, replicate 17 0)
     ∷ ((p, replicate 19 0)
     ∷ ((p, replicate 27 0)
     ∷ ((falling, replicate 18 0)
-    ∷ [])))))))))))))))))
+    ∷ []))))))))))))))))))
 
 -- each of them computes
 rows-hold : Rows true rows-right × Rows false rows-wrong
-unfolding Sounds rows-right rows-wrong firstOf labelCheck itemCheck validCheck rowNumber legalRow cutsOf cover
-    planNumber legalPlan homeOf home counted recordsIn soundPart fitsRows rowAtHome soundRowPart soundRows
+unfolding Sounds rows-right rows-wrong firstOf labelCheck itemCheck validCheck rowNumber durability durable legalRow
+    cutsOf cover minimumCheck planNumber legalPlan homeOf home counted recordsIn soundPart fitsRows rowAtHome
+    soundRowPart soundRows
 rows-hold = (
-  (refl, (refl, (refl, (refl, (refl, (refl, (refl, (refl, tt)))))))),
+  (refl, (refl, (refl, (refl, (refl, (refl, (refl, (refl, (refl, tt))))))))),
   (
     refl,
     (
@@ -275,7 +289,10 @@ rows-hold = (
             refl,
             (
               refl,
-              (refl, (refl, (refl, (refl, (refl, (refl, (refl, (refl, (refl, (refl, (refl, (refl, tt)))))))))))),
+              (
+                refl,
+                (refl, (refl, (refl, (refl, (refl, (refl, (refl, (refl, (refl, (refl, (refl, (refl, tt)))))))))))),
+              ),
             ),
           ),
         ),

@@ -198,22 +198,24 @@ abbrev pub StoredAt : {A : Type 0} → (Partitioning → ℕ) → (List ℕ → 
 StoredAt room held store stored among = (p : Partitioning) (ws : List ℕ) → store p ws ≡ true → (i : ℕ) → i < p .count
     → among p i (stored p ws) ≡ held (partitionAt (room p) ws i)
 
-stored-at : {A : Type 0} (legal : A → Bool) (last : A → ℕ) (room : Partitioning → ℕ)
+stored-at : {A : Type 0} (legal : Partitioning → A → Bool) (last : A → ℕ) (room : Partitioning → ℕ)
     (part : Partitioning → ℕ → List ℕ → Bool) (store : Partitioning → List ℕ → Bool) (held : List ℕ → List A)
-    → SoundAt room part store → AtHome part (λ p i x. legal x && eqb (home p (last x)) i) held
+    → SoundAt room part store → AtHome part (λ p i x. legal p x && eqb (home p (last x)) i) held
     → StoredAt room held store (λ p ws. gather (λ i. held (partitionAt (room p) ws i)) (below (p .count)))
     (λ p i. keep (λ x. eqb (home p (last x)) i))
 stored-at legal last room part store held at homes p ws s =
-    gathered-at legal (λ x. home p (last x)) (p .count) (λ i. held (partitionAt (room p) ws i))
+    gathered-at (legal p) (λ x. home p (last x)) (p .count) (λ i. held (partitionAt (room p) ws i))
     (λ i l. homes p i (partitionAt (room p) ws i) (at p ws s i l))
 
 pub tuples-stored-at : StoredAt tupleRoom tuplesIn soundTuples storedTuples tuplesAt
 unfolding tuplesAt storedTuples tupleAtHome
-tuples-stored-at = stored-at legalTuple to tupleRoom soundTuplePart soundTuples tuplesIn sound-tuples-at tuples-at-home
+tuples-stored-at =
+    stored-at (λ p. legalTuple) to tupleRoom soundTuplePart soundTuples tuplesIn sound-tuples-at tuples-at-home
 
 pub rows-stored-at : StoredAt rowRoom rowsIn soundRows storedRows rowsAt
 unfolding rowsAt storedRows rowAtHome
-rows-stored-at = stored-at legalRow rowTo rowRoom soundRowPart soundRows rowsIn sound-rows-at rows-at-home
+rows-stored-at =
+    stored-at (λ p. legalRow (p .minimum)) rowTo rowRoom soundRowPart soundRows rowsIn sound-rows-at rows-at-home
 
 -- ---- the empty store: all zeros, of the plan's length
 

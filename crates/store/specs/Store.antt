@@ -49,7 +49,7 @@ unfoldable pub tupleAtHome : Partitioning → ℕ → Tuple → Bool
 tupleAtHome p i t = legalTuple t && eqb (home p (to t)) i
 
 unfoldable pub rowAtHome : Partitioning → ℕ → Row → Bool
-rowAtHome p i r = legalRow r && eqb (home p (rowTo r)) i
+rowAtHome p i r = legalRow (p .minimum) r && eqb (home p (rowTo r)) i
 
 -- partition i of a tuple store, of the rows store is sound
 unfoldable pub soundTuplePart : Partitioning → ℕ → List ℕ → Bool

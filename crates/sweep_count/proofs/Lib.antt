@@ -3,3 +3,4 @@ pub mod Shares
 pub mod PartitionLaws
 pub mod CountLoops
 pub mod Space
+pub mod Unaffected

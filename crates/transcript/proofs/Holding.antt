@@ -1,6 +1,6 @@
 -- What every line keeps (`Holding`): before the plan is complete the machine was told of no accepted call; after that
 -- the wall holds what the machine holds. In order: at the start; a line that is refused, or tells nothing; a change; a
--- lane line; every transcript (`holding`).
+-- `least` line; a lane line; every transcript (`holding`).
 -- Assumes nothing.
 use mathlib.Core.Bool.{true, false, not, true≢false, false≢true}
 use mathlib.Core.List.{List, [], _∷_}
@@ -29,10 +29,10 @@ use Rattle.lines.specs.Line.{lineOf}
 use Rattle.lines.specs.declared.Word.{Word}
 use Rattle.lines.specs.declared.Word.the-variants.{DrawIn, DrawOut, SpotIn, SpotOut}
 use Rattle.lines.specs.declared.Line.{Line}
-use Rattle.lines.specs.declared.Line.the-variants.{Lane, Change, Malformed}
-use Rattle.session_plan.specs.Lanes.{fresh, planOf, withLane, laneCheck}
+use Rattle.lines.specs.declared.Line.the-variants.{Lane, Least, Change, Malformed}
+use Rattle.session_plan.specs.Lanes.{fresh, planOf, withLane, withMinimum, laneCheck, leastCheck}
 use Rattle.session_plan.specs.declared.Session.{Session}
-use Rattle.session_plan.proofs.Lanes.{lane-passed}
+use Rattle.session_plan.proofs.Lanes.{lane-passed, least-passed}
 use Rattle.session_plan.proofs.Plans.{Good, plan-legal}
 use Rattle.session.specs.Session.{wallOf, laneNumber, Called, changeLineNumber, WallChanged, LaneTaken, SteppedBy}
 use Rattle.session.specs.declared.Stepped.{Stepped}
@@ -138,6 +138,27 @@ module _ (s : Session) (w : Word) (t : Tuple) (S S′ : Stores) (ts : List Told)
           let ne = eqb-false (r .number) 0 e in
           holding-same _ s (r .session) S S′ (holding-told (callOf w t) (r .number) ts s S ne h) (b .refused ne)
 
+-- ---- a `least` line
+
+-- an accepted one comes before the plan is complete, and leaves the stores
+module _ (s : Session) (n : ℕ) (S S′ : Stores) (ts : List Told) (h : Holding ts s S) where
+  holding-with : leastCheck s n ≡ 0 → Holding ts (withMinimum s n) S′
+  holding-with z =
+      let u = least-passed s n z .0 in
+      record { early = λ _. h .early u; late = λ c. absurd (true≢false (sym c ∙ u)) }
+
+  holding-least : (r : Stepped) → SteppedBy s (Least n) S S′ r → Holding ts (r .session) S′
+  holding-least r b = ⊎-elim accepted refused (bool-cases (eqb (r .number) 0))
+    where
+      accepted : eqb (r .number) 0 ≡ true → Holding ts (r .session) S′
+      accepted e =
+          let z = sym (b .number) ∙ eqb-true (r .number) 0 e in
+          let is : r .session ≡ withMinimum s n = b .session ∙ after-accepted s (Least n) S z in
+          rw is (holding-with z)
+
+      refused : eqb (r .number) 0 ≡ false → Holding ts (r .session) S′
+      refused e = holding-same ts s (r .session) S S′ h (b .refused (eqb-false (r .number) 0 e))
+
 -- ---- a lane line
 
 -- an accepted one: its own checks passed, and the session with the lane is one that steps reach
@@ -201,6 +222,7 @@ module _ (s : Session) (m : Chronon) (S S′ : Stores) (ts : List Told) (g : Goo
 holding-step : (s : Session) (line : Line) (S S′ : Stores) (ts : List Told) (r : Stepped) → Good s → Holding ts s S
     → SteppedBy s line S S′ r → Holding (heard line (r .number) ts) (r .session) S′
 holding-step s (Lane m) S S′ ts r g h b = holding-lane s m S S′ ts g h r b
+holding-step s (Least n) S S′ ts r g h b = holding-least s n S S′ ts h r b
 holding-step s (Change w t) S S′ ts r g h b = holding-change s w t S S′ ts h r b
 holding-step s Malformed S S′ ts r g h b =
     holding-same ts s (r .session) S S′ h (b .refused (λ z. absurd (omega (arith, b .number))))

@@ -23,16 +23,16 @@ use Rattle.lines.specs.Line.{lineOf}
 use Rattle.lines.specs.declared.Word.{Word}
 use Rattle.lines.specs.declared.Word.the-variants.{DrawIn, DrawOut, SpotIn, SpotOut}
 use Rattle.lines.specs.declared.Line.{Line}
-use Rattle.lines.specs.declared.Line.the-variants.{Lane, Change, Malformed}
+use Rattle.lines.specs.declared.Line.the-variants.{Lane, Least, Change, Malformed}
 use Rattle.lines.proofs.Printed.{ChangeBounds}
-use Rattle.session_plan.specs.Lanes.{planOf}
+use Rattle.session_plan.specs.Lanes.{planOf, leastCheck}
 use Rattle.session_plan.specs.declared.Session.{Session}
 use Rattle.session_plan.proofs.Plans.{Good}
 use Rattle.session.specs.Session.{EightPartitions, wallOf, laneNumber, callNumber, changeLineNumber, stepNumber}
 use Rattle.session.proofs.Reached.{reached-good}
 use Rattle.session.proofs.Lengths.{reached-long}
 use Rattle.session.proofs.Numbers.{eight-partitions-as, first-met, refuse-ok, guarded-ok, among-more}
-use Rattle.session.proofs.Numbers.{laneNumbers, lane-met, tuple-met, Bounded, bounded}
+use Rattle.session.proofs.Numbers.{laneNumbers, lane-met, leastNumbers, least-met, tuple-met, Bounded, bounded}
 use Rattle.transcript.specs.Transcript.{Transcript, begun, then}
 use Rattle.transcript.specs.SessionKept.{numbersMet, isMet, NeverLate}
 use Rattle.transcript.proofs.Holding.{Holding, reached, holding}
@@ -76,6 +76,7 @@ change-is s w t S ts l h =
 line-is : (s : Session) (line : Line) (S : Stores) (ts : List Told) → Good s → EightPartitions S → Bounded line
     → Holding ts s S → isMet (stepNumber s line S) ≡ true
 line-is s (Lane m) S ts g y l h = among-more laneNumbers numbersMet refl (laneNumber s m S) (lane-met s m S g y)
+line-is s (Least n) S ts g y l h = among-more leastNumbers numbersMet refl (leastCheck s n) (least-met s n)
 line-is s (Change w t) S ts g y l h = change-is s w t S ts l h
 line-is s Malformed S ts g y l h = refl
 

@@ -34,17 +34,18 @@ use Rattle.transcript.proofs.Sorting.{sort-same, sort-sorted}
 -- ---- every row of the join belongs to one of the plan's partitions
 
 pub join-within : (p : Partitioning) (ws : List ℕ) (ds ss : List Tuple) → TupleStore p ws ss
-    → all (λ r. ltb (home p (rowTo r)) (p .count)) (joinOf ds ss) ≡ true
+    → all (λ r. ltb (home p (rowTo r)) (p .count)) (joinOf (p .minimum) ds ss) ≡ true
 join-within p ws ds ss h =
     sym
-    (all-same sameRow same-row-is _ (joinOf ds (storedTuples p ws)) (joinOf ds ss)
-    (join-same ds ds (storedTuples p ws) ss (same-refl sameTuple ds) (h .held)))
+    (all-same sameRow same-row-is _ (joinOf (p .minimum) ds (storedTuples p ws)) (joinOf (p .minimum) ds ss)
+    (join-same (p .minimum) ds ds (storedTuples p ws) ss (same-refl sameTuple ds) (h .held)))
     ∙ stored ds
   where
-    stored : (ds : List Tuple) → all (λ r. ltb (home p (rowTo r)) (p .count)) (joinOf ds (storedTuples p ws)) ≡ true
-    stored [] = ap (all _) (join-empty-left (storedTuples p ws))
+    stored : (ds : List Tuple)
+        → all (λ r. ltb (home p (rowTo r)) (p .count)) (joinOf (p .minimum) ds (storedTuples p ws)) ≡ true
+    stored [] = ap (all _) (join-empty-left (p .minimum) (storedTuples p ws))
     stored (d ∷ ds) =
-        rw (join-outer-more d ds (storedTuples p ws), all-append)
+        rw (join-outer-more (p .minimum) d ds (storedTuples p ws), all-append)
         (and-both _ _ (made-within p ws (h .sound) Outer d) (stored ds))
 
 -- ---- the text

@@ -16,7 +16,7 @@ use Rattle.report.specs.Report.{textRoom, ReportWritten}
 use Rattle.report.specs.declared.Reported.{Reported}
 use Rattle.lines.specs.Line.{lineOf}
 use Rattle.lines.specs.declared.Line.{Line}
-use Rattle.lines.specs.declared.Line.the-variants.{Lane, Change, Malformed}
+use Rattle.lines.specs.declared.Line.the-variants.{Lane, Least, Change, Malformed}
 use Rattle.session_plan.specs.Lanes.{wallRowsMost, planOf}
 use Rattle.session_plan.specs.declared.Session.{Session}
 use Rattle.session_plan.proofs.Plans.{Good}
@@ -36,6 +36,7 @@ use Rattle.transcript.proofs.Printing.{join-within, text-is}
 line-framed : (s : Session) (line : Line) (S S′ : Stores) (ts : List Told) (r : Stepped) → Holding ts s S
     → SteppedBy s line S S′ r → Framed s line (r .number) S S′
 line-framed s (Lane m) S S′ ts r h b = tt
+line-framed s (Least minimum) S S′ ts r h b = tt
 line-framed s (Change w t) S S′ ts r h b =
     λ z.
     let k = h .late (change-complete s w t S (sym (b .number) ∙ z)) in
@@ -60,11 +61,11 @@ machine-kept ts s S h c m e =
 
 pub rows-printed : (m : Machine) (s : Session) (S : Stores) → Good s → Kept m (planOf s) (wallOf s S)
     → (out rows′ out′ : List ℕ) (r : Reported) → ReportWritten (planOf s) (wallOf s S .rows) out rows′ out′ r
-    → textRoom wallRowsMost ≤ length out → Printed (planOf s) (joinOf (m .outer) (m .inner)) out out′ r
+    → textRoom wallRowsMost ≤ length out → Printed (planOf s) (joinOf (s .minimum) (m .outer) (m .inner)) out out′ r
 rows-printed m s S g k out rows′ out′ r w h =
     let z : r .number ≡ 0 = w .number ∙ report-accepted m s S g k (length out) h in
-    let e : textOf (planOf s) rows′ ≡ printedRows (planOf s) (joinOf (m .outer) (m .inner)) =
-    text-is (planOf s) (wallOf s S .rows) rows′ (joinOf (m .outer) (m .inner)) (k .rows)
+    let e : textOf (planOf s) rows′ ≡ printedRows (planOf s) (joinOf (s .minimum) (m .outer) (m .inner)) =
+    text-is (planOf s) (wallOf s S .rows) rows′ (joinOf (s .minimum) (m .outer) (m .inner)) (k .rows)
     (join-within (planOf s) (wallOf s S .inner) (m .outer) (m .inner) (k .inner)) (w .store z) in
     record {
       number = z;

@@ -18,7 +18,7 @@ use Rattle.report.specs.Report.{textRoom, reportNumber, ReportWritten}
 use Rattle.report.specs.declared.Reported.{Reported}
 use Rattle.lines.specs.Line.{lineOf}
 use Rattle.lines.specs.declared.Line.{Line}
-use Rattle.lines.specs.declared.Line.the-variants.{Lane, Change, Malformed}
+use Rattle.lines.specs.declared.Line.the-variants.{Lane, Least, Change, Malformed}
 use Rattle.session_plan.specs.Lanes.{wallRowsMost, planOf}
 use Rattle.session_plan.specs.declared.Session.{Session}
 use Rattle.session.specs.Session.{EightPartitions, wallOf}
@@ -26,9 +26,9 @@ use Rattle.transcript.specs.Transcript.{Transcript, begun, then}
 use Rattle.transcript.specs.Rows.{printedRows}
 
 -- "The program can meet 2, 7 to 11, 15 and 16; the rest only a direct caller can." So it meets neither 5 nor 12, nor 17
--- (see NeverLate below)
+-- (see NeverLate below); and 18, of a `least` line (document 02, (f))
 abbrev pub numbersMet : List ℕ
-numbersMet = 0 ∷ 2 ∷ 7 ∷ 8 ∷ 9 ∷ 10 ∷ 11 ∷ 15 ∷ 16 ∷ []
+numbersMet = 0 ∷ 2 ∷ 7 ∷ 8 ∷ 9 ∷ 10 ∷ 11 ∷ 15 ∷ 16 ∷ 18 ∷ []
 
 abbrev pub isMet : ℕ → Bool
 isMet n = any (eqb n) numbersMet
@@ -37,6 +37,7 @@ isMet n = any (eqb n) numbersMet
 -- span"
 abbrev pub Framed : Session → Line → ℕ → Stores → Stores → Type 0
 Framed s (Lane m) n S S′ = Unit {0}
+Framed s (Least minimum) n S S′ = Unit {0}
 Framed s (Change w t) n S S′ = n ≡ 0 → Untouched (planOf s) t (wallOf s S .rows) (wallOf s S′ .rows)
 Framed s Malformed n S S′ = Unit {0}
 
@@ -69,7 +70,8 @@ pub record LinesKept {S₀ : Stores} {ns : List ℕ} {ts : List Told} {s : Sessi
   -- and it prints the rows of the machine's drawings and spots
   pub printed : s .complete ≡ true → (m : Machine) → machineAfter (planOf s) ts ≡ some m
       → (out rows′ out′ : List ℕ) (r : Reported) → ReportWritten (planOf s) (wallOf s S .rows) out rows′ out′ r
-      → textRoom wallRowsMost ≤ length out → Printed (planOf s) (joinOf (m .outer) (m .inner)) out out′ r
+      → textRoom wallRowsMost ≤ length out
+      → Printed (planOf s) (joinOf (s .minimum) (m .outer) (m .inner)) out out′ r
 
 -- Demand 3 of the program: for every list of lines that a session took since `fresh`, on lent stores that have the
 -- words of 8 lanes (1,032, 1,032 and 2,568)

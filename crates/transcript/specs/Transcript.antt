@@ -10,7 +10,7 @@ use Rattle.lines.specs.Line.{lineOf}
 use Rattle.lines.specs.declared.Word.{Word}
 use Rattle.lines.specs.declared.Word.the-variants.{DrawIn, DrawOut, SpotIn, SpotOut}
 use Rattle.lines.specs.declared.Line.{Line}
-use Rattle.lines.specs.declared.Line.the-variants.{Lane, Change, Malformed}
+use Rattle.lines.specs.declared.Line.the-variants.{Lane, Least, Change, Malformed}
 use Rattle.session_plan.specs.Lanes.{fresh}
 use Rattle.session_plan.specs.declared.Session.{Session}
 use Rattle.session.specs.Session.{SteppedBy}
@@ -24,10 +24,11 @@ callOf SpotIn t = insert Inner t
 callOf SpotOut t = delete Inner t
 
 -- what the machine was told, the newest first, after a line that got that number: it is "told which call is made, on
--- which side, with which tuple .. and whether it answered 0"; of a lane line and of a line that is not of the form,
--- nothing
+-- which side, with which tuple .. and whether it answered 0"; of a lane line, of a `least` line and of a line that is
+-- not of the form, nothing
 abbrev pub heard : Line → ℕ → List Told → List Told
 heard (Lane m) n ts = ts
+heard (Least minimum) n ts = ts
 heard (Change w t) n ts = record { call = callOf w t; number = n } ∷ ts
 heard Malformed n ts = ts
 

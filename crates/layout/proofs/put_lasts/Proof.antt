@@ -5,10 +5,11 @@ use mathlib.Core.Path.{_≡_, refl, sym, _∙_}
 use Prim.Native.Nat.{_+_, _-_}
 use native.Mathlib.Omega.{arith}
 use lib.ListN.{length, length-map, List·getD-map}
-use Rattle.lists.proofs.Copies.{Copied, copied-none, copied-more, copied-length, copied-all}
+use Rattle.lists.proofs.Copies.{Copied, copied-none, copied-more, copied-length}
 use Rattle.interval.specs.declared.time.Chronon.{Chronon}
 use Rattle.plan.specs.Plan.{mostPartitions, numbers}
 use Rattle.layout.specs.Layout.{planHead, planWords}
+use Rattle.layout.proofs.Words.{put-all}
 use Rattle.layout.proofs.put_lasts.Statement.{statement}
 use Rattle.layout.proofs.put_lasts.Tie as tie
 
@@ -67,9 +68,8 @@ same-length c = long (c .before) ∙ sym (c .before .before .pre)
 returns : tie.Need-returns Inv-loop μ-loop
 returns c =
     let at = c .before in
-    copied-all (at .before .args .plan .now) planHead (numbers (at .before .args .t1)) (at .loop .place)
-    (at .loop .plan)
-    (omega (arith, many (at .before))) (omega (arith, many (at .before), at .before .pre)) (at .loop .inv)
+    put-all (at .before .args .plan .now) (at .loop .plan) (at .before .args .t1) (at .loop .place) (omega arith)
+    (omega arith) (at .loop .inv)
 
 pub put-lasts-spec : {M : Type 1} → statement M
 put-lasts-spec =

@@ -3,11 +3,11 @@
 use mathlib.Core.Bool.{true, false}
 use mathlib.Core.Path.{_≡_, sym, _∙_}
 use borrow.Author.Tests.{not-true, not-false}
-use Rattle.lists.proofs.Choice.{or-left, or-right}
+use Rattle.lists.proofs.Choice.{or-left, or-right, or-none}
 use Rattle.plan.specs.Plan.{outside, mostPartitions, mostTuples, mostRows, cutsOf, cover, planNumber}
 use Rattle.plan.specs.declared.Partitioning.{Partitioning}
-use Rattle.plan.proofs.Homes.{is-within, is-below, is-above, plan-legal}
-use Rattle.plan.proofs.Homes.{count-answers, cuts-answer, sizes-answer}
+use Rattle.plan.proofs.Homes.{is-within, is-below, is-above}
+use Rattle.plan.proofs.Homes.{count-answers, cuts-answer, sizes-answer, minimum-answers}
 use borrow.Author.Needs.{needs}
 use Rattle.plan.proofs.plan_number.Statement.{statement}
 use Rattle.plan.proofs.plan_number.Tie as tie
@@ -69,20 +69,19 @@ returns-7 c =
     rows-answer (c .before .before .before .before .before .before .before .before)
     (is-above 1 mostRows _ (c .if7 .taken))
 
+minimum-check-requires : tie.Need-minimum-check-requires
+minimum-check-requires c κs = search needs
+
 returns-8 : tie.Need-returns-8
 returns-8 c =
-    let past = c .before .before .before .before .before .before .before .before in
-    sym
-    (plan-legal (planOf past)
-    record {
-      least = past .before .before .before .before .before .if1 .left;
-      most = past .before .before .before .if2 .left;
-      covered = covered past;
-      tuples-least = c .before .before .before .before .before .before .if4 .left;
-      tuples-most = c .before .before .before .before .if5 .left;
-      rows-least = c .before .before .if6 .left;
-      rows-most = c .if7 .left;
-    })
+    let sizes = c .before in
+    let past = sizes .before .before .before .before .before .before .before .before in
+    let tuples = is-within 1 mostTuples (planOf past .tuples)
+    (sizes .before .before .before .before .before .before .if4 .left)
+    (sizes .before .before .before .before .if5 .left) in
+    let rows = is-within 1 mostRows (planOf past .rows) (sizes .before .before .if6 .left) (sizes .if7 .left) in
+    c .minimum-check .ensures
+    ∙ minimum-answers (planOf past) (counted (past .before .before .before)) (covered past) (or-none _ _ tuples rows)
 
 pub plan-number-spec : {M : Type 1} → statement M
 plan-number-spec =
@@ -96,4 +95,5 @@ plan-number-spec =
     returns-5
     returns-6
     returns-7
+    minimum-check-requires
     returns-8)

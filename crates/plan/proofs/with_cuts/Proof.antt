@@ -62,7 +62,7 @@ returns c =
     let e = spliced-end (a .t2) (a .p .lasts) (c .before .before .if1 .places) (a .p .count) (c .before .loop .i)
     (c .before .loop .lasts)
     (used-is (c .before .before)) (c .loop-test .left) (c .before .loop .inv) in
-    λ k. record { count = a .p .count; lasts = e k; tuples = a .p .tuples; rows = a .p .rows }
+    λ k. record { count = a .p .count; lasts = e k; tuples = a .p .tuples; rows = a .p .rows; minimum = a .p .minimum }
 
 pub with-cuts-spec : {M : Type 1} → statement M
 with-cuts-spec =

@@ -1,4 +1,5 @@
--- `session_plan::start` meets its contract: no lane, 0 in every place, the plan not complete.
+-- `session_plan::start` meets its contract: no lane, 0 in every place, the minimum 1, the plan not
+-- complete.
 -- Assumes nothing.
 use mathlib.Core.Path.{refl}
 use Rattle.session_plan.proofs.start.Statement.{statement}

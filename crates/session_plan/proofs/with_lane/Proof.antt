@@ -16,8 +16,8 @@ mul-lasts c = search needs
 array-set-from-lasts : tie.Need-array-set-from-lasts
 array-set-from-lasts c = search needs
 
-add-t9 : tie.Need-add-t9
-add-t9 c = search needs
+add-t10 : tie.Need-add-t10
+add-t10 c = search needs
 
 returns-2 : tie.Need-returns-2
 returns-2 c =
@@ -25,4 +25,4 @@ returns-2 c =
     lane-added (a .s) (a .m) (c .before .before .before .if1 .left)
 
 pub with-lane-spec : {M : Type 1} → statement M
-with-lane-spec = tie.close (tie.spec returns mul-lasts array-set-from-lasts add-t9 returns-2)
+with-lane-spec = tie.close (tie.spec returns mul-lasts array-set-from-lasts add-t10 returns-2)

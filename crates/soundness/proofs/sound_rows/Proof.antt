@@ -1,7 +1,7 @@
 -- `soundness::sound_rows` meets its contract: check 5 of a store of rows.
 -- Assumes nothing.
 use native.Mathlib.Omega.{arith}
-use Rattle.store.specs.Store.{soundRowPart, soundRows}
+use Rattle.store.specs.Store.{rowAtHome, soundRowPart, soundRows}
 use Rattle.store.proofs.StoreLoops.{rows-given}
 use Rattle.soundness.specs.Between.{soundParts}
 use Rattle.soundness.proofs.sound_rows.Statement.{statement}
@@ -16,7 +16,7 @@ sound-parts-requires c κs =
     (f .0, record { roomy = omega (arith, c .row-room .ensures); long = rw (c .row-room .ensures) (f .1) })
 
 returns : tie.Need-returns
-unfolding soundParts soundRows soundRowPart
+unfolding soundParts soundRows soundRowPart rowAtHome
 returns c = rw (c .before .row-room .ensures) at (c .sound-parts .ensures)
 
 pub sound-rows-spec : {M : Type 1} → statement M

@@ -39,6 +39,9 @@ mix-requires-3 c κs = search needs
 mix-requires-4 : tie.Need-mix-requires-4 Inv-loop μ-loop
 mix-requires-4 c κs = search needs
 
+mix-requires-5 : tie.Need-mix-requires-5 Inv-loop μ-loop
+mix-requires-5 c κs = search needs
+
 returns : tie.Need-returns Inv-loop μ-loop
 returns c = search needs
 
@@ -57,4 +60,5 @@ plan-spec =
     loop-again
     mix-requires-3
     mix-requires-4
+    mix-requires-5
     returns)
