@@ -1,7 +1,6 @@
 -- Every call refuses a plan that is not legal by the plan's own number: it stands first in each list of checks.
 -- Assumes nothing.
-use mathlib.Core.Path.{_≡_, sym, _∙_, ap}
-use Prim.Native.Nat.{ℕ}
+use mathlib.Core.Path.{_≡_, sym, _∙_}
 use native.Mathlib.Omega.{arith}
 use lib.ListN.{length}
 use borrow.Author.Tests.{eq-eqb}
@@ -16,7 +15,7 @@ use Rattle.join.specs.Repartitioning.{repartitionNumber}
 use Rattle.requirements.specs.Requirements.{requirementsNumber}
 use Rattle.report.specs.Report.{reportNumber}
 use Rattle.layout.specs.Layout.{planWords, lentNumber}
-use Rattle.refused_plans.specs.Refused.{RefusedBy, RefusedEverywhere, MinimumRefused}
+use Rattle.refused_plans.specs.Refused.{RefusedEverywhere, MinimumRefused}
 
 module _ (p : Partitioning) (s : Stores) (bad : planNumber p ≡ 0 → ⊥) where
   opened : openNumber p s ≡ planNumber p

@@ -1,5 +1,5 @@
 -- A plan that is not legal, in every call that takes one: the number that each call's promise cites is the plan's own.
-use mathlib.Core.Bool.{Bool, true, false, _||_}
+use mathlib.Core.Bool.{true, false, _||_}
 use mathlib.Core.List.{List}
 use mathlib.Core.Path.{_≡_}
 use Prim.Native.Nat.{ℕ}

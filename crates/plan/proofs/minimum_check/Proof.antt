@@ -1,6 +1,5 @@
 -- `plan::minimum_check` meets its contract: below 1, above the most, or within.
 -- Assumes nothing.
-use mathlib.Core.Path.{sym}
 use Rattle.plan.specs.Plan.{mostMinimum, minimumCheck}
 use Rattle.plan.proofs.Homes.{is-within, is-below, is-above}
 use Rattle.plan.proofs.minimum_check.Statement.{statement}
