@@ -54,8 +54,7 @@ join-made p side t ts us other h =
     λ r.
     join-from-more (p .minimum) side t ts us r
     ∙ same-append sameRow before before (madeWith (p .minimum) side t us) (made p side t other)
-    (same-refl sameRow before)
-    (λ q. sym (made-held p side t other us h q)) r
+    (same-refl sameRow before) (λ q. sym (made-held p side t other us h q)) r
 
 -- a partition that shares no chronon with the tuple gains nothing
 pub untouched : (p : Partitioning) → planNumber p ≡ 0 → length (p .lasts) ≡ mostPartitions → (side : Side) (t : Tuple)

@@ -22,8 +22,7 @@ returns-2 c S =
     let n = c .before .before in
     let a = n .before .args in
     least-step (a .s) (a .minimum) S (n .least-check .result) (n .least-check .ensures) (c .before .if1 .left)
-    (c .with-minimum .result)
-    (c .with-minimum .ensures)
+    (c .with-minimum .result) (c .with-minimum .ensures)
 
 pub take-least-spec : {M : Type 1} → statement M
 take-least-spec = tie.close (tie.spec least-check-requires returns with-minimum-requires returns-2)
