@@ -158,37 +158,30 @@ module _ (w : Word) (bs : List ℕ) (k : ℕ) (e : k ≡ placeOf isComma bs) whe
 
 -- ---- the first field of a line
 
+-- a word that is no change's, with more fields than one after it
+more-fields : (w : List ℕ) → ((f : Word → Line) → worded w f ≡ Malformed) → (m n : List ℕ) (more : List (List ℕ))
+    → formOf (w ∷ (m ∷ (n ∷ more))) ≡ Malformed
+unfolding formOf
+more-fields w none m n [] = refl
+more-fields w none m n (a ∷ []) = refl
+more-fields w none m n (a ∷ (b ∷ [])) = none _
+more-fields w none m n (a ∷ (b ∷ (c ∷ more))) = refl
+
 -- `lane`: what stands after the comma is read whole
 form-lane : (w bs : List ℕ) → sameBytes w laneBytes ≡ true → formOf (w ∷ fieldsOf bs) ≡ laneOf bs
 unfolding formOf worded laneOf
 form-lane w bs e =
     ap (λ (v : List ℕ). formOf (v ∷ fieldsOf bs)) (same-bytes-is w laneBytes e)
-    ∙ last-field (λ fs. formOf (laneBytes ∷ fs)) Malformed bs two comma
-  where
-    two : (f g : List ℕ) (more : List (List ℕ)) → formOf (laneBytes ∷ (f ∷ (g ∷ more))) ≡ Malformed
-    two f g [] = refl
-    two f g (a ∷ []) = refl
-    two f g (a ∷ (b ∷ [])) = refl
-    two f g (a ∷ (b ∷ (c ∷ more))) = refl
-
-    comma : any isComma bs ≡ true → formOf (laneBytes ∷ (bs ∷ [])) ≡ Malformed
-    comma t = rw (comma-no-number bs t)
+    ∙ last-field (λ fs. formOf (laneBytes ∷ fs)) Malformed bs (more-fields laneBytes (λ f. refl))
+    (λ t. rw (comma-no-number bs t))
 
 -- `least`: so is what stands after its comma
 form-least : (w bs : List ℕ) → sameBytes w leastBytes ≡ true → formOf (w ∷ fieldsOf bs) ≡ leastOf bs
 unfolding formOf worded leastOf
 form-least w bs e =
     ap (λ (v : List ℕ). formOf (v ∷ fieldsOf bs)) (same-bytes-is w leastBytes e)
-    ∙ last-field (λ fs. formOf (leastBytes ∷ fs)) Malformed bs two comma
-  where
-    two : (f g : List ℕ) (more : List (List ℕ)) → formOf (leastBytes ∷ (f ∷ (g ∷ more))) ≡ Malformed
-    two f g [] = refl
-    two f g (a ∷ []) = refl
-    two f g (a ∷ (b ∷ [])) = refl
-    two f g (a ∷ (b ∷ (c ∷ more))) = refl
-
-    comma : any isComma bs ≡ true → formOf (leastBytes ∷ (bs ∷ [])) ≡ Malformed
-    comma t = rw (comma-no-number bs t)
+    ∙ last-field (λ fs. formOf (leastBytes ∷ fs)) Malformed bs (more-fields leastBytes (λ f. refl))
+    (λ t. rw (comma-no-number bs t))
 
 -- a change's word
 worded-word : (v : Word) (f : Word → Line) → worded (bytesOf v) f ≡ f v
