@@ -12,8 +12,9 @@ use Rattle.lists.proofs.Choice.{first-none, refuse-none, refusal-met, refusal-p
 use Rattle.plan.specs.Plan.{planNumber}
 use Rattle.plan.specs.declared.Partitioning.{Partitioning}
 use Rattle.store.specs.Store.{fitsTuples, fitsRows, soundTuples, soundRows}
+use Rattle.store.proofs.StoreLoops.{rows-given, given-rows}
 use Rattle.checks.specs.Stores.{Stores, fitsAll, sound, tuplesLength, rowsLength, tuplesUnsound, rowsUnsound}
-use Rattle.checks.specs.Stores.{lengthsNumber, openNumber, storeNumber}
+use Rattle.checks.specs.Stores.{lengthsNumber, openNumber, storeNumber, rowsNumber, SoundStore}
 
 -- one check, by an answer to its test that holds, and by one that fails
 pub check-none : (n : ℕ) {answer b : Bool} → answer ≡ b → answer ≡ true → 0 ≡ refuseIf (not b) n
@@ -131,3 +132,25 @@ ready p s e =
       inner = tuples-sound p (s .inner) (i .0);
       rows = rows-sound p (s .rows) (r .0);
     }
+
+-- and those of the rows store alone; and back
+pub sound-store : (p : Partitioning) (rows : List ℕ) → rowsNumber p rows ≡ 0 → SoundStore p rows
+unfolding rowsNumber
+sound-store p rows e =
+    let a = first-none (planNumber p) _ e in
+    let l = first-none (rowsLength p (length rows)) _ (a .1) in
+    let s = first-none (rowsUnsound p rows) [] (l .1) in
+    record {
+      legal = a .0;
+      long = rows-given p (length rows) (rows-fit p (length rows) (l .0)) .1;
+      sound = rows-sound p rows (s .0);
+    }
+
+pub store-sound : (p : Partitioning) (rows : List ℕ) → SoundStore p rows → rowsNumber p rows ≡ 0
+unfolding rowsNumber firstOf
+store-sound p rows s =
+    rw (
+      s .legal,
+      fit-rows p (length rows) (given-rows p (length rows) (s .legal, s .long)),
+      sound-rows p rows (s .sound),
+    )

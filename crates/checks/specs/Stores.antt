@@ -1,16 +1,16 @@
 -- The three stores, checks 4 and 5 of each by itself, the checks of plan, stores and tuple in the table's order, and
 -- what an answer says.
-use mathlib.Core.Bool.{Bool, not, _&&_}
+use mathlib.Core.Bool.{Bool, true, not, _&&_}
 use mathlib.Core.List.{List, [], _∷_}
 use mathlib.Core.Path.{_≡_}
-use Prim.Native.Nat.{ℕ}
+use Prim.Native.Nat.{ℕ, _*_}
 use lib.ListN.{length}
 use Rattle.lists.specs.Choice.{refuseIf, firstOf}
 use Rattle.interval.specs.Tuple.{tupleNumber}
 use Rattle.interval.specs.declared.tuple.Tuple.{Tuple}
 use Rattle.plan.specs.Plan.{planNumber}
 use Rattle.plan.specs.declared.Partitioning.{Partitioning}
-use Rattle.store.specs.Store.{fitsTuples, fitsRows, soundTuples, soundRows}
+use Rattle.store.specs.Store.{rowRoom, fitsTuples, fitsRows, soundTuples, soundRows}
 use Rattle.checks.specs.declared.Answer.{Answer}
 
 -- "Store 1 holds drawings, store 2 spots, store 3 rows": the words of the three
@@ -64,6 +64,16 @@ storeNumber p s =
 
 unfoldable pub givenNumber : Partitioning → Tuple → Stores → ℕ
 givenNumber p t s = firstOf (storeNumber p s ∷ (tupleNumber t ∷ []))
+
+-- checks 1 to 5 of a call that is lent store 3 alone (document 02, (g): "Refusals are 1 to 5, with only store 3 looked
+-- at"; the report of the rows has them too), and what they leave known
+unfoldable pub rowsNumber : Partitioning → List ℕ → ℕ
+rowsNumber p rows = firstOf (planNumber p ∷ (rowsLength p (length rows) ∷ (rowsUnsound p rows ∷ [])))
+
+pub record SoundStore (p : Partitioning) (rows : List ℕ) : Type 0 where
+  pub legal : planNumber p ≡ 0
+  pub long : length rows ≡ p .count * rowRoom p
+  pub sound : soundRows p rows ≡ true
 
 -- an answer of that number, with "both 0": the two counts
 abbrev pub Says : Answer → ℕ → Type 0

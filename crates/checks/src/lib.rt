@@ -6,7 +6,8 @@ ghost use lib.ListN.{length};
 ghost use Rattle.plan.specs.Plan.{planNumber};
 ghost use Rattle.store.specs.Store.{fitsTuples, fitsRows};
 ghost use Rattle.checks.specs.Stores.{tuplesLength, rowsLength, tuplesUnsound, rowsUnsound};
-ghost use Rattle.checks.specs.Stores.{stores, lengthsNumber, storeNumber, givenNumber, Says, Counts};
+ghost use Rattle.checks.specs.Stores.{stores, lengthsNumber, storeNumber, rowsNumber, givenNumber, Says};
+ghost use Rattle.checks.specs.Stores.{Counts};
 use interval::tuple::Tuple;
 use plan::PartitionIndex;
 use plan::Partitioning;
@@ -106,6 +107,21 @@ pub fn store_number(p: Partitioning, outer: &[u64], inner: &[u64], rows: &[u64])
     let inner_unsound = tuples_unsound(p, inner);
     if inner_unsound != 0 {
         return inner_unsound;
+    }
+    rows_unsound(p, rows)
+}
+
+// Checks 1 to 5 of a call that is lent the rows store alone.
+pub fn rows_number(p: Partitioning, rows: &[u64]) -> u64
+    ensures { λ r. ⌜ r ≡ rowsNumber p (now (rows .entry)) ⌝ }
+{
+    let number = plan::plan_number(p);
+    if number != 0 {
+        return number;
+    }
+    let long = rows_length(p, rows.len());
+    if long != 0 {
+        return long;
     }
     rows_unsound(p, rows)
 }

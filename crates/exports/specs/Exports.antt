@@ -17,6 +17,7 @@ use Rattle.join.specs.Repartitioning.{Repartitioned}
 use Rattle.join.specs.declared.Kind.{Kind}
 use Rattle.requirements.specs.Requirements.{RequirementsOf}
 use Rattle.requirements.specs.declared.Requirements.{Requirements}
+use Rattle.question_words.specs.QuestionWords.{WordsAnswered}
 use Rattle.layout.specs.Layout.{planWords, minutes, planIn, wordsOf, told, refusal, answerFits, requirementsFit}
 use Rattle.layout.specs.Layout.{lentNumber}
 
@@ -75,3 +76,9 @@ abbrev pub RequirementsExported : (plan outer inner report answer report′ answ
 RequirementsExported plan outer inner report answer report′ answer′ n =
     Exported requirementsIn noRequirements (lentNumber plan (requirementsFit answer)) answer answer′ n
     (report′ ≡ report) (λ r. RequirementsOf (planIn plan) outer inner report report′ r)
+
+-- a screenful of questions, three words each
+abbrev pub QuestionsExported : (plan rows questions answer questions′ answer′ : List ℕ) → ℕ → Type 0
+QuestionsExported plan rows questions answer questions′ answer′ n =
+    Exported wordsOf refusal (lentNumber plan (answerFits answer)) answer answer′ n
+    (questions′ ≡ questions) (λ a. WordsAnswered (planIn plan) rows questions questions′ a)

@@ -3,7 +3,7 @@
 // A plan is 68 words: the lane count, the tuple capacity, the row capacity, then 64 places for last minutes, and the
 // minimum. A tuple is handed over as four words, its side as one: 1 for drawings, anything else for spots. An answer is
 // three words: the refusal number and the two counts; what a sweep requires is four: the number, each side's need and
-// the pairs. The number is also returned. A plan of another length says nothing and is refused with 4; an answer or new
+// the pairs. A question is three: label, minute, answer. The number is also returned. A plan of another length says nothing and is refused with 4; an answer or new
 // last minutes of another length are refused with 4 after the plan's own numbers, 1 to 3 and 18. The answer's words are
 // written by every call that is lent as many; every other buffer only where a call is accepted.
 // Nothing has to be checked before calling; each slice is an address and a length in words.
@@ -11,7 +11,7 @@ ghost use Rattle.interval.specs.Tuple.{tuple};
 ghost use Rattle.join.specs.declared.Kind.the-variants.{Insert, Delete};
 ghost use Rattle.layout.specs.Layout.{sideOf};
 ghost use Rattle.exports.specs.Exports.{OpenExported, ChangeExported, SweepExported, CutsExported};
-ghost use Rattle.exports.specs.Exports.{RequirementsExported};
+ghost use Rattle.exports.specs.Exports.{RequirementsExported, QuestionsExported};
 use interval::tuple::Tuple;
 use join::Kind;
 use layout::ANSWER_WORDS;
@@ -204,4 +204,25 @@ pub extern "C" fn ruthgarwy_requirements(
     let p = layout::plan_in(plan);
     let r = requirements::of_sweep(p, outer, inner, report);
     layout::tell_requirements(r.number, r.outer, r.inner, r.pairs, answer)
+}
+
+// A screenful of questions.
+#[no_mangle]
+pub extern "C" fn ruthgarwy_questions(
+    plan: &[u64],
+    rows: &[u64],
+    questions: &mut [u64],
+    answer: &mut [u64],
+) -> u64
+    ensures { λ r. ⌜ QuestionsExported (now (plan .entry))
+        (now (rows .entry)) (now (questions .entry)) (now (answer .entry))
+        (now (questions .exit)) (now (answer .exit)) r ⌝ }
+{
+    let refusal = layout::lent_number(plan, answer.len() == ANSWER_WORDS);
+    if refusal != 0 {
+        return layout::tell(checks::refused(refusal), answer);
+    }
+    let p = layout::plan_in(plan);
+    let a = question_words::answer(p, rows, questions);
+    layout::tell(a, answer)
 }

@@ -87,6 +87,20 @@ rows-stored-same p ws rs held homes x =
     ∙ sym (tally-gather (sameRow x) (λ i. keep (λ (r : Row). eqb (home p (rowTo r)) i) rs) (below (p .count)))
     ∙ same-split sameRow (λ r. home p (rowTo r)) (p .count) rs homes x
 
+-- of a wall that is kept: all the rows that are stored are those of the join, each as often
+module _ (m : Machine) (p : Partitioning) (s : Stores) (k : Kept m p s) where
+  abbrev joined : List Row
+  joined = joinOf (p .minimum) (m .outer) (m .inner)
+
+  joined-homed : all (λ r. ltb (home p (rowTo r)) (p .count)) joined ≡ true
+  joined-homed =
+      rows-homed p (k .legal) (k .places) joined
+      (join-legal (p .minimum) (m .outer) (m .inner) (held-legal p (s .outer) (m .outer) (k .outer))
+      (held-legal p (s .inner) (m .inner) (k .inner)))
+
+  pub stored-join : Same sameRow (storedRows p (s .rows)) joined
+  stored-join = rows-stored-same p (s .rows) joined (k .rows .held) joined-homed
+
 -- ---- stores moved to the partitions of new cuts
 
 tuples-with-cuts : (p : Partitioning) (new : List Chronon) (ws ws′ : List ℕ) (ts : List Tuple) → TupleStore p ws ts
@@ -123,7 +137,6 @@ module _ (m : Machine) (p p′ : Partitioning) (new : List Chronon) (s s′ : St
   kept-with-cuts z =
       let checked = passed p new s (sym (called .number) ∙ z) in
       let moved = called .accepted z .1 in
-      let rows = joinOf (p .minimum) (m .outer) (m .inner) in
       record {
         in-force = ap (λ (q : Partitioning). withCuts q new) (k .in-force);
         places = with-cuts-places p new long (k .places) (k .legal);
@@ -131,11 +144,7 @@ module _ (m : Machine) (p p′ : Partitioning) (new : List Chronon) (s s′ : St
         outer = tuples-with-cuts p new (s .outer) (s′ .outer) (m .outer) (k .outer) (moved .outer);
         inner = tuples-with-cuts p new (s .inner) (s′ .inner) (m .inner) (k .inner) (moved .inner);
         rows =
-            rows-with-cuts p new s s′ rows (k .rows)
-            (rows-homed p (k .legal) (k .places) rows
-            (join-legal (p .minimum) (m .outer) (m .inner) (held-legal p (s .outer) (m .outer) (k .outer))
-            (held-legal p (s .inner) (m .inner) (k .inner))))
-            moved;
+            rows-with-cuts p new s s′ (joined m p s k) (k .rows) (joined-homed m p s k) moved;
       }
 
   accepted-kept : a .number ≡ 0 → Kept with-cuts p′ s′

@@ -5,6 +5,7 @@ pub mod Choice
 pub mod Members
 pub mod Tally
 pub mod Tables
+pub mod Front
 pub mod Gather
 pub mod Below
 pub mod Same

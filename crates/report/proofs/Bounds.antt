@@ -27,13 +27,13 @@ use Rattle.part.specs.Part.{counted, rowsIn}
 use Rattle.part.proofs.Parts.{length-rows, sound-count}
 use Rattle.store.specs.Store.{rowPart, rowAtHome, soundRowPart, storedRows}
 use Rattle.store.proofs.Stores.{sound-rows-at, rows-at-home}
+use Rattle.checks.specs.Stores.{SoundStore}
 use Rattle.lines.specs.Fields.{comma, lineEnd, digitsOf}
 use Rattle.text_buffer.specs.Buffer.{ended}
 use Rattle.text_buffer.proofs.Digits.{digits-length}
 use Rattle.report.specs.Text.{rowBytes, rowsBytes, rowLine, countLine}
 use Rattle.report.specs.Text.{partitionText, rowCount, partitionsText, textOf}
 use Rattle.report.specs.Report.{textRoom, SortedStore}
-use Rattle.report.specs.Steps.{SoundStore}
 
 -- ---- totals of numbers that are bounded at each number below n
 

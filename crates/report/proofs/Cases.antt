@@ -16,10 +16,10 @@ use Rattle.plan.specs.Plan.{cutsOf, cover, minimumCheck, planNumber, legalPlan,
 use Rattle.plan.specs.declared.Partitioning.{Partitioning}
 use Rattle.part.specs.Part.{counted, recordsIn, rowsIn, soundPart}
 use Rattle.store.specs.Store.{fitsRows, rowAtHome, soundRowPart, soundRows, storedRows}
+use Rattle.checks.specs.Stores.{rowsLength, rowsUnsound, rowsNumber}
 use Rattle.lines.specs.Fields.{digitsOf}
 use Rattle.report.specs.Order.{before, sorted}
 use Rattle.report.specs.Text.{rowLine, countLine, partitionText, partitionsText, textOf}
-use Rattle.checks.specs.Stores.{rowsLength, rowsUnsound}
 use Rattle.report.specs.Report.{reportNumber}
 
 -- ---- how a case is written
@@ -165,7 +165,7 @@ checks =
     ∷ []
 
 pub check-cases : checks ≡ 1 ∷ 2 ∷ 4 ∷ 5 ∷ 0 ∷ 4 ∷ 18 ∷ 18 ∷ 2 ∷ 5 ∷ []
-unfolding reportNumber planNumber minimumCheck cutsOf cover legalPlan rowsLength rowsUnsound fitsRows soundRows
+unfolding reportNumber rowsNumber planNumber minimumCheck cutsOf cover legalPlan rowsLength rowsUnsound fitsRows soundRows
     soundRowPart soundPart rowAtHome legalRow rowNumber labelCheck itemCheck validCheck durability durable home homeOf
     firstOf storedRows rowsIn recordsIn counted
 check-cases = refl

@@ -1,6 +1,6 @@
 -- The checks of `write`, one after the other, and what it leaves known where they pass; what it answers.
 -- Assumes nothing.
-use mathlib.Core.List.{List, [], _∷_}
+use mathlib.Core.List.{List, []}
 use mathlib.Core.Path.{_≡_, refl, sym, _∙_}
 use Prim.Native.Nat.{ℕ, _≤_, _<_}
 use native.Mathlib.Nat.{zero-add}
@@ -8,72 +8,39 @@ use native.Mathlib.Omega.{arith}
 use lib.Dec.{ltb}
 use lib.ListN.{length}
 use borrow.Author.Tests.{ltb-false, lt-ltb, le-ltb}
-use Rattle.lists.specs.Choice.{refuseIf, firstOf}
+use Rattle.lists.specs.Choice.{refuseIf}
 use Rattle.lists.proofs.Choice.{first-none, refuse-none, refuse-met, refuse-passed}
 use Rattle.lists.proofs.Choice.{answer-here, answer-next, answer-last}
-use Rattle.plan.specs.Plan.{planNumber}
 use Rattle.plan.specs.declared.Partitioning.{Partitioning}
-use Rattle.store.specs.Store.{fitsRows}
-use Rattle.store.proofs.StoreLoops.{rows-given}
-use Rattle.checks.specs.Stores.{rowsLength, rowsUnsound}
-use Rattle.checks.proofs.Checks.{rows-fit, rows-sound}
+use Rattle.checks.specs.Stores.{rowsNumber, SoundStore}
+use Rattle.checks.proofs.Checks.{sound-store}
 use Rattle.text_buffer.specs.Buffer.{Put}
 use Rattle.report.specs.Text.{rowCount, textOf}
 use Rattle.report.specs.Report.{textRoom, reportNumber, SortedStore, ReportWritten}
-use Rattle.report.specs.Steps.{SoundStore}
 use Rattle.report.proofs.Partitions.{sorted-sound}
 use Rattle.report.proofs.Bounds.{row-count-sorted, text-bound}
 
 -- ---- going down the checks
 
 module _ (p : Partitioning) (rows : List ℕ) (room : ℕ) where
-  pub refuses-plan : (n : ℕ) → n ≡ planNumber p → (n ≡ 0 → ⊥) → n ≡ reportNumber p rows room
+  pub refuses-store : (n : ℕ) → n ≡ rowsNumber p rows → (n ≡ 0 → ⊥) → n ≡ reportNumber p rows room
   unfolding reportNumber
-  refuses-plan n e h = answer-here _ e h
+  refuses-store n e h = answer-here _ e h
 
-  module _ (l : planNumber p ≡ 0) where
-    plan-next : (r : ℕ) → r ≡ firstOf (rowsLength p (length rows)
-        ∷ (rowsUnsound p rows ∷ (refuseIf (ltb room (textRoom (rowCount p rows))) 4 ∷ [])))
-        → r ≡ reportNumber p rows room
+  module _ (s : rowsNumber p rows ≡ 0) where
+    sound-next : (r : ℕ) → r ≡ refuseIf (ltb room (textRoom (rowCount p rows))) 4 → r ≡ reportNumber p rows room
     unfolding reportNumber
-    plan-next r e = answer-next {n = planNumber p} _ refl l e
+    sound-next r e = answer-next {n = rowsNumber p rows} _ refl s (answer-last e)
 
-    pub refuses-length : (n : ℕ) → n ≡ rowsLength p (length rows) → (n ≡ 0 → ⊥) → n ≡ reportNumber p rows room
-    refuses-length n e h = plan-next n (answer-here _ e h)
+    pub refuses-buffer : room < textRoom (rowCount p rows) → 4 ≡ reportNumber p rows room
+    refuses-buffer h =
+        sound-next 4
+        (sym (refuse-met (ltb room (textRoom (rowCount p rows))) 4 (lt-ltb room (textRoom (rowCount p rows)) h)))
 
-    module _ (f : rowsLength p (length rows) ≡ 0) where
-      fits-next : (r : ℕ) → r ≡ firstOf (rowsUnsound p rows
-          ∷ (refuseIf (ltb room (textRoom (rowCount p rows))) 4 ∷ [])) → r ≡ reportNumber p rows room
-      fits-next r e = plan-next r (answer-next {n = rowsLength p (length rows)} _ refl f e)
-
-      pub refuses-unsound : (n : ℕ) → n ≡ rowsUnsound p rows → (n ≡ 0 → ⊥) → n ≡ reportNumber p rows room
-      refuses-unsound n e h = fits-next n (answer-here _ e h)
-
-      module _ (s : rowsUnsound p rows ≡ 0) where
-        pub sound-store : SoundStore p rows
-        unfolding fitsRows
-        sound-store = record {
-          legal = l;
-          long = rows-given p (length rows) (rows-fit p (length rows) f) .1;
-          sound = rows-sound p rows s;
-        }
-
-        sound-next : (r : ℕ) → r ≡ firstOf (refuseIf (ltb room (textRoom (rowCount p rows))) 4 ∷ [])
-            → r ≡ reportNumber p rows room
-        sound-next r e = fits-next r (answer-next {n = rowsUnsound p rows} _ refl s e)
-
-        pub refuses-buffer : room < textRoom (rowCount p rows) → 4 ≡ reportNumber p rows room
-        refuses-buffer h =
-            sound-next 4
-            (answer-last
-            (sym (refuse-met (ltb room (textRoom (rowCount p rows))) 4 (lt-ltb room (textRoom (rowCount p rows)) h))))
-
-        pub passes : textRoom (rowCount p rows) ≤ room → 0 ≡ reportNumber p rows room
-        passes h =
-            sound-next 0
-            (answer-last
-            (sym
-            (refuse-passed (ltb room (textRoom (rowCount p rows))) 4 (le-ltb room (textRoom (rowCount p rows)) h))))
+    pub passes : textRoom (rowCount p rows) ≤ room → 0 ≡ reportNumber p rows room
+    passes h =
+        sound-next 0
+        (sym (refuse-passed (ltb room (textRoom (rowCount p rows))) 4 (le-ltb room (textRoom (rowCount p rows)) h)))
 
 -- ---- what passed checks leave known
 
@@ -84,12 +51,10 @@ pub record Passed (p : Partitioning) (rows : List ℕ) (room : ℕ) : Type 0 whe
 pub passed : (p : Partitioning) (rows : List ℕ) (room : ℕ) → reportNumber p rows room ≡ 0 → Passed p rows room
 unfolding reportNumber
 passed p rows room e =
-    let a = first-none (planNumber p) _ e in
-    let b = first-none (rowsLength p (length rows)) _ (a .1) in
-    let s = first-none (rowsUnsound p rows) _ (b .1) in
+    let s = first-none (rowsNumber p rows) _ e in
     let r = first-none (refuseIf (ltb room (textRoom (rowCount p rows))) 4) [] (s .1) in
     record {
-      store = sound-store p rows room (a .0) (b .0) (s .0);
+      store = sound-store p rows (s .0);
       roomy =
           ltb-false room (textRoom (rowCount p rows))
           (refuse-none (ltb room (textRoom (rowCount p rows))) 3 (r .0));

@@ -8,11 +8,10 @@ use lib.ListN.{length, drop}
 use Rattle.lists.specs.Choice.{refuseIf, firstOf}
 use Rattle.lists.specs.Same.{Same}
 use Rattle.interval.specs.Tuple.{sameRow}
-use Rattle.plan.specs.Plan.{planNumber}
 use Rattle.plan.specs.declared.Partitioning.{Partitioning}
 use Rattle.part.specs.Part.{counted, rowsIn}
 use Rattle.store.specs.Store.{rowPart, soundRows}
-use Rattle.checks.specs.Stores.{rowsLength, rowsUnsound}
+use Rattle.checks.specs.Stores.{rowsNumber}
 use Rattle.report.specs.Order.{sorted}
 use Rattle.report.specs.Text.{headBytes, rowBytes, rowCount, textOf}
 use Rattle.report.specs.declared.Reported.{Reported}
@@ -21,14 +20,11 @@ use Rattle.report.specs.declared.Reported.{Reported}
 abbrev pub textRoom : ℕ → ℕ
 textRoom n = headBytes + rowBytes * n
 
--- checks 1 to 3 and 18 of the plan; 4, the store's length; 5, its soundness; and 4 again where the buffer is too short,
--- which stands last since only a sound store tells how many rows there are
+-- checks 1 to 5, with 18, of plan and store 3, as of every call that is lent that store alone; and 4 again where the
+-- buffer is too short, which stands last since only a sound store tells how many rows there are
 unfoldable pub reportNumber : Partitioning → List ℕ → ℕ → ℕ
 reportNumber p rows room =
-    firstOf
-    (planNumber p
-    ∷ (rowsLength p (length rows)
-    ∷ (rowsUnsound p rows ∷ (refuseIf (ltb room (textRoom (rowCount p rows))) 4 ∷ []))))
+    firstOf (rowsNumber p rows ∷ (refuseIf (ltb room (textRoom (rowCount p rows))) 4 ∷ []))
 
 -- the rows store before and after: each lane holds its rows, now sorted ("Rows may stand in any order in a lane"), and
 -- every other word is as it was

@@ -9,9 +9,9 @@ mod order;
 mod text;
 
 ghost use mathlib.Core.Path.{_≡_};
+ghost use Rattle.checks.specs.Stores.{SoundStore};
 ghost use Rattle.report.specs.Text.{rowCount};
 ghost use Rattle.report.specs.Report.{reportNumber, ReportWritten};
-ghost use Rattle.report.specs.Steps.{SoundStore};
 use plan::PartitionIndex;
 use plan::Partitioning;
 
@@ -41,21 +41,13 @@ fn count_rows(p: Partitioning, rows: &[u64]) -> u64
     count
 }
 
-// The checks: of the plan (1 to 3 and 18), the store's length (4) and soundness (5), and the buffer's length (4).
+// The checks: of plan and store (1 to 5 and 18), and of the buffer's length (4).
 fn report_number(p: Partitioning, rows: &[u64], room: usize) -> u64
     ensures { λ r. ⌜ r ≡ reportNumber p (now (rows .entry)) room ⌝ }
 {
-    let number = plan::plan_number(p);
+    let number = checks::rows_number(p, rows);
     if number != 0 {
         return number;
-    }
-    let long = checks::rows_length(p, rows.len());
-    if long != 0 {
-        return long;
-    }
-    let unsound = checks::rows_unsound(p, rows);
-    if unsound != 0 {
-        return unsound;
     }
     if room < HEAD_BYTES + ROW_BYTES * count_rows(p, rows) as usize {
         return 4;
