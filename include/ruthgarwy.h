@@ -10,13 +10,14 @@
  * A slice argument is an address and a length in words. The address is not null and is aligned for uint64_t, the
  * length is what lies there, and a buffer that a call writes overlaps no other argument of that call. Nothing else
  * has to be checked before calling: every call answers for any words and any lengths. A refusal writes no word of
- * plan, stores, caches or report; a plan may lie in memory that cannot be written, but for an accepted recut.
+ * plan, stores, caches, report or questions; a plan may lie in memory that cannot be written, but for an accepted
+ * recut.
  *
  * The answer's words are written by every call, refused or not, that is lent exactly as many as it answers with; an
  * answer of another length is not written, and the call is refused. A plan of another length than named here is
  * refused with 4: no other check can be made. So is a plan of 67 words, as it was before it had a minimum. An answer or
- * new last minutes of another length are refused with 4 too, after the plan's own checks 1 to 3 and 18 and before all
- * others, as the stores' lengths are.
+ * new last minutes of another length, and questions whose words are no multiple of three, are refused with 4 too, after
+ * the plan's own checks 1 to 3 and 18 and before all others, as the stores' lengths are.
  */
 #ifndef RUTHGARWY_H
 #define RUTHGARWY_H
@@ -75,6 +76,15 @@ extern "C" {
 #define RUTHGARWY_REQUIREMENTS_PAIRS 3
 
 /*
+ * A question, as ruthgarwy_questions is lent them, one after the other: a label number, a minute and the place for the
+ * answer. Any words may stand there.
+ */
+#define RUTHGARWY_QUESTION_WORDS 3
+#define RUTHGARWY_QUESTION_LABEL 0
+#define RUTHGARWY_QUESTION_MINUTE 1
+#define RUTHGARWY_QUESTION_ANSWER 2
+
+/*
  * The words of a store, from the plan's numbers. A store is its lanes in order; a lane is one count word, then its
  * full capacity of records. A record of stores 1 and 2 is a tuple, four words: label number, item number, first
  * minute, last minute. A record of store 3 is a row, five words: label number, drawing number, spot number, first
@@ -117,7 +127,8 @@ enum ruthgarwy_number {
                                      (also a recut's new ones, after 5) */
     RUTHGARWY_CAPACITY = 3,       /* plan: a capacity is out of its range */
     RUTHGARWY_LENGTH = 4,         /* stores, report: a length isn't what the plan gives; a plan, an answer or new last
-                                     minutes are not of the length above */
+                                     minutes are not of the length above; the words of questions are no multiple of
+                                     three */
     RUTHGARWY_UNSOUND = 5,        /* stores, not in open: a store is not sound; also if a row has fewer minutes than the
                                      plan's minimum */
     RUTHGARWY_LABEL = 6,          /* tuple: the label number is out of range (1 to 217,180,147,158) */
@@ -216,6 +227,20 @@ uint64_t ruthgarwy_requirements(const uint64_t *plan, size_t plan_words,
                                 const uint64_t *inner, size_t inner_words,
                                 uint64_t *report, size_t report_words,
                                 uint64_t *answer, size_t answer_words);
+
+/*
+ * A screenful of questions: from store 3, which it only reads. Each answer becomes the number of stored rows with that
+ * label whose span contains that minute, first and last included; 0 if the label is not 1 to 217,180,147,158 or the
+ * minute is above RUTHGARWY_LAST_MINUTE. Labels and minutes stay as they are, and what stood in an answer's place is
+ * not read. There may be any number of questions, none too. Can be refused with 1 to 3, 18, 4 and 5, asked of this
+ * store and the questions' length; a refusal leaves every answer as it was. Counts: 0; rows read, each once for the
+ * whole list, which is the number stored from the lane of the smallest legal minute in the list to the last lane. A
+ * legal minute counts there whatever the label beside it; with none it is 0.
+ */
+uint64_t ruthgarwy_questions(const uint64_t *plan, size_t plan_words,
+                             const uint64_t *rows, size_t rows_words,
+                             uint64_t *questions, size_t questions_words,
+                             uint64_t *answer, size_t answer_words);
 
 #ifdef __cplusplus
 }

@@ -1,8 +1,9 @@
 #!/bin/bash
 # The C host of examples/host, built with the static library, hangs document 01's example as document 01 lists it, tells
-# spans entered backward from those that run past the calendar, says before a sweep what that will take, also where
-# projectors fade, and moves what hangs to other lanes. Then tests/host_minimum.c: what a plan's minimum does, and when
-# it is refused, in every call.
+# spans entered backward from those that run past the calendar, shows on an info screen how much hangs when, says before
+# a sweep what that will take, also where projectors fade, and moves what hangs to other lanes. Then
+# tests/host_minimum.c: what a plan's minimum does, and when it is refused, in every call. And tests/host_questions.c:
+# what questions are answered, how many rows are read for them, and when they are refused.
 # Works from any folder. Needs rt and a C compiler: that which CC names, else cc.
 set -eu
 
@@ -29,6 +30,35 @@ insert spot: number 17, counts 0 0, the span runs past the calendar
 insert spot: number 8, counts 0 0, the span was entered backward
 withdraw drawing: number 17, counts 0 0, the span runs past the calendar
 SPANS
+
+# The info screen, by hand. The five rows follow one another from minute 30 to 48, so one with AL hangs at each of these
+# minutes, 30, 32 and 48 among them, and none at 29 and 49. None has LA, which is label 26 * 12 + 1; minute 100,000,000
+# is past the calendar. The smallest minute of this screen is 29, in lane 1: all five rows are read. That of the second
+# is 41, in lane 3, where one row is stored. The third comes after the recut below, with the last minutes 31 and 47 and
+# two rows more. Minute 46 is in the rows 41 to 48 and 45 to 47, minute 48 in 41 to 48 and 48 to 48; the drawing of
+# minute 32 was withdrawn, and at 60 there is no spot. The smallest minute is 32, in lane 2: the three rows there and the
+# two of lane 3 are read, but not that of lane 1.
+diff <(grep -E '^(questions|  label)' <<<"$said") - <<'QUESTIONS'
+questions: number 0, rows read 5
+  label 38 at minute 29: 0
+  label 38 at minute 30: 1
+  label 38 at minute 32: 1
+  label 38 at minute 48: 1
+  label 38 at minute 49: 0
+  label 313 at minute 30: 0
+  label 38 at minute 100000000: 0
+questions: number 0, rows read 1
+  label 38 at minute 48: 1
+  label 38 at minute 41: 1
+  label 313 at minute 50: 0
+questions: number 0, rows read 5
+  label 38 at minute 46: 2
+  label 38 at minute 48: 2
+  label 38 at minute 32: 0
+  label 38 at minute 60: 0
+QUESTIONS
+# the other blocks are of what is left
+said=$(grep -Ev '^(questions|  label)' <<<"$said")
 
 # What a sweep of it takes, by hand. Rows: of these five, two are listed for lane 1, two for lane 2, one for lane 3.
 # Drawings to carry: above lane 1 stand 33 to 40 and 41 to 48, of which the first begins by 34; above lane 2 stands 41
@@ -94,10 +124,12 @@ recut: number 0, counts 0 0
   lane 1: label 38, drawing 12, spot 2, minutes 45 to 47
 RECUTS
 
-# The minimum, with the values that it must have in the program's text; the library is built by now.
+# The minimum and the questions, with the values that must come in the programs' text; the library is built by now.
 room=$(mktemp -d)
 trap 'rm -rf "$room"' EXIT
-${CC:-cc} -std=c11 -Wall -Wextra -O2 -I "$here/../include" -o "$room/minimum" "$here/host_minimum.c" \
-    "$here/../target/staticlib/libexports.a"
-"$room/minimum"
-echo "host: document 01's example hangs as listed, faulty spans are told apart, a sweep takes what was said, recuts move all"
+for test in minimum questions; do
+    ${CC:-cc} -std=c11 -Wall -Wextra -O2 -I "$here/../include" -o "$room/$test" "$here/host_$test.c" \
+        "$here/../target/staticlib/libexports.a"
+    "$room/$test"
+done
+echo "host: document 01's example hangs as listed, faulty spans are told apart, a screen shows what hangs, a sweep takes what was said, recuts move all"

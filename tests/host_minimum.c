@@ -20,7 +20,7 @@ static uint64_t plan[RUTHGARWY_PLAN_WORDS];
 static uint64_t outer[RUTHGARWY_TUPLE_STORE_WORDS(LANES, TUPLES)], inner[RUTHGARWY_TUPLE_STORE_WORDS(LANES, TUPLES)];
 static uint64_t rows[RUTHGARWY_ROW_STORE_WORDS(LANES, ROWS)], report[LANES];
 static uint64_t outer_cache[RUTHGARWY_CACHE_WORDS(LANES, TUPLES)], inner_cache[RUTHGARWY_CACHE_WORDS(LANES, TUPLES)];
-static uint64_t cuts[RUTHGARWY_CUT_WORDS];
+static uint64_t cuts[RUTHGARWY_CUT_WORDS], questions[RUTHGARWY_QUESTION_WORDS];
 static uint64_t answer[RUTHGARWY_REQUIREMENTS_WORDS];
 
 // an array as a slice: its address and its length in words
@@ -81,22 +81,25 @@ static uint64_t call(int k, lengths n)
                                inner_cache, 0, answer, a);
     case 6:
         return ruthgarwy_repartition(plan, n.plan_words, cuts, c, LENT);
+    case 7:
+        return ruthgarwy_questions(plan, n.plan_words, rows, r, SLICE(questions), answer, a);
     default:
         return ruthgarwy_requirements(plan, n.plan_words, outer, o, inner, i, report, q, answer, a + 1);
     }
 }
 
-enum { CALLS = 8, RECUT = 6 };
+enum { CALLS = 9, RECUT = 6 };
 
 // Every call is refused with that number, whatever the stores hold, and writes no word but its answer's: the number and
 // zeros, or none where the answer has another length than it must. Words of new last minutes are the recut's alone.
 static void refused(const char *what, uint64_t number, lengths n)
 {
-    static uint64_t was[6][sizeof rows / sizeof *rows];
-    uint64_t *const all[] = {plan, outer, inner, rows, report, cuts};
-    const size_t bytes[] = {sizeof plan, sizeof outer, sizeof inner, sizeof rows, sizeof report, sizeof cuts};
+    static uint64_t was[7][sizeof rows / sizeof *rows];
+    uint64_t *const all[] = {plan, outer, inner, rows, report, cuts, questions};
+    const size_t bytes[] = {sizeof plan,   sizeof outer, sizeof inner,    sizeof rows,
+                            sizeof report, sizeof cuts,  sizeof questions};
     memset(outer, 0xff, sizeof outer), memset(inner, 0xff, sizeof inner), memset(rows, 0xff, sizeof rows);
-    memset(report, 0xee, sizeof report), memset(cuts, 0, sizeof cuts);
+    memset(report, 0xee, sizeof report), memset(cuts, 0, sizeof cuts), memset(questions, 1, sizeof questions);
     for (size_t b = 0; b < COUNT(all); b++)
         memcpy(was[b], all[b], bytes[b]);
     for (int k = n.cut_words_less ? RECUT : 0; k < (n.cut_words_less ? RECUT + 1 : CALLS); k++) {
@@ -236,6 +239,7 @@ static void short_row(const char *what)
     told(what, ruthgarwy_delete(SLICE(plan), RUTHGARWY_OUTER, LABEL, 4, 16, 30, STORES, ANSWER), 5, 0, 0);
     told(what, sweep(), 5, 0, 0);
     told(what, recut(), 5, 0, 0);
+    told(what, ruthgarwy_questions(SLICE(plan), SLICE(rows), SLICE(questions), ANSWER), 5, 0, 0);
 }
 
 static void wall(void)

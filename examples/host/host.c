@@ -1,13 +1,14 @@
-// A small host of the static library: opens a wall, inserts document 01's example, asks what a sweep will take, sweeps,
-// also for a hall whose projectors fade, withdraws, recuts with the drawings on the wall when the opening hours change,
-// and prints each call's answer (its number and its counts) and the rows where they change.
+// A small host of the static library: opens a wall, inserts document 01's example, shows on an info screen how much
+// hangs when, asks what a sweep will take, sweeps, also for a hall whose projectors fade, withdraws, recuts with the
+// drawings on the wall when the opening hours change, and prints each call's answer (its number and its counts), the
+// rows where they change, and the screens.
 #include <inttypes.h>
 #include <stdio.h>
 
 #include "ruthgarwy.h"
 
 enum { LANES = 3, TUPLES = 4, ROWS = 8 };
-enum { AL = 38 }; // the label AL: 26 * 1 + 12
+enum { AL = 38, LA = 313 }; // the labels AL: 26 * 1 + 12, and LA: 26 * 12 + 1
 
 // every overlap makes a row: the minimum is 1
 static uint64_t plan[RUTHGARWY_PLAN_WORDS] = {LANES, TUPLES, ROWS, 34, 40, RUTHGARWY_LAST_MINUTE,
@@ -107,6 +108,20 @@ static void recut(const uint64_t cuts[RUTHGARWY_CUT_WORDS])
     printf("\n");
 }
 
+// The info screen: a list of questions, each a label, a minute and a place for the answer, asked in one go. Prints how
+// many rows with that label hang at that minute, and how many rows were read for the whole list.
+static void screen(uint64_t (*questions)[RUTHGARWY_QUESTION_WORDS], size_t count)
+{
+    uint64_t number = ruthgarwy_questions(SLICE(plan), SLICE(rows), questions[0], count * RUTHGARWY_QUESTION_WORDS,
+                                          SLICE(answer));
+    printf("questions: number %" PRIu64 ", rows read %" PRIu64 "\n", number, answer[RUTHGARWY_ANSWER_EXAMINED]);
+    for (size_t k = 0; k < count; k++) {
+        printf("  label %" PRIu64, questions[k][RUTHGARWY_QUESTION_LABEL]);
+        printf(" at minute %" PRIu64, questions[k][RUTHGARWY_QUESTION_MINUTE]);
+        printf(": %" PRIu64 "\n", questions[k][RUTHGARWY_QUESTION_ANSWER]);
+    }
+}
+
 static void print_rows(const uint64_t *hall_rows)
 {
     for (size_t lane = 0; lane < LANES; lane++) {
@@ -127,6 +142,13 @@ int main(void)
     static const uint64_t early[RUTHGARWY_CUT_WORDS] = {99, 199, RUTHGARWY_LAST_MINUTE};
     static const uint64_t falling[RUTHGARWY_CUT_WORDS] = {47, 31, RUTHGARWY_LAST_MINUTE};
 
+    // what the info screen asks: of the whole day, with a label that hangs nowhere and a minute past the calendar; of
+    // the evening; of the day again
+    static uint64_t day[][RUTHGARWY_QUESTION_WORDS] = {
+        {AL, 29}, {AL, 30}, {AL, 32}, {AL, 48}, {AL, 49}, {LA, 30}, {AL, RUTHGARWY_LAST_MINUTE + 1}};
+    static uint64_t evening[][RUTHGARWY_QUESTION_WORDS] = {{AL, 48}, {AL, 41}, {LA, 50}};
+    static uint64_t again[][RUTHGARWY_QUESTION_WORDS] = {{AL, 46}, {AL, 48}, {AL, 32}, {AL, 60}};
+
     told("open", ruthgarwy_open(SLICE(plan), SLICE(outer), SLICE(inner), SLICE(rows), SLICE(answer)));
 
     insert(RUTHGARWY_OUTER, 10, 30, 31);
@@ -139,6 +161,8 @@ int main(void)
     insert(RUTHGARWY_INNER, 3, 50, RUTHGARWY_LAST_MINUTE + 1); // refused: past the calendar
     insert(RUTHGARWY_INNER, 3, RUTHGARWY_LAST_MINUTE + 2, RUTHGARWY_LAST_MINUTE + 1); // refused: both, told as backward
     print_rows(rows);
+    screen(SLICE(day));
+    screen(SLICE(evening)); // reads only what may hang then
 
     ask(plan);
     size_t outer_words = RUTHGARWY_NEED_WORDS(required[RUTHGARWY_REQUIREMENTS_OUTER]);
@@ -165,6 +189,7 @@ int main(void)
     insert(RUTHGARWY_OUTER, 12, 45, 47);
     insert(RUTHGARWY_OUTER, 13, 48, 60);
     print_rows(rows);
+    screen(SLICE(again));
     recut(falling); // refused: last minutes rise
     recut(early);   // refused: five drawings in a lane for four
     withdraw(RUTHGARWY_OUTER, 13, 48, 60);

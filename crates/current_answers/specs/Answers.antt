@@ -1,6 +1,6 @@
 -- Questions asked of a wall that is kept current (demand 3): they are never refused for plan and store, and each answer
--- counts the rows of the machine's drawings and spots, by the minimum in force. Over the records that `questions::answer`
--- and `question_words::answer` promise.
+-- counts the rows of the machine's drawings and spots, by the minimum in force. Over the records that
+-- `questions::answer` and `question_words::answer` promise.
 use mathlib.Core.List.{List, map}
 use mathlib.Core.Option.{some}
 use mathlib.Core.Path.{_≡_}

@@ -81,12 +81,7 @@ pub home-inside : (p : Partitioning) (m : ℕ) → home p m ≤ p .count
 unfolding home
 home-inside p m = omega (arith, home-most (cutsOf p) m, cuts-most p)
 
--- one of the calendar has a partition, and a chronon past the calendar none that early
-pub home-below : (p : Partitioning) → planNumber p ≡ 0 → (m : ℕ) → m ≤ calendarEnd → home p m < p .count
-unfolding home
-home-below p legal m l =
-    omega (arith, home-within (cutsOf p) (legal-plan p legal .covered) m l, cuts-most p)
-
+-- a chronon past the calendar has no partition as early as one of the calendar
 home-past-calendar : (p : Partitioning) → planNumber p ≡ 0 → (m : ℕ) → m ≤ calendarEnd
     → home p m < home p (calendarEnd + 1)
 unfolding home

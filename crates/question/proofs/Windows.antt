@@ -1,13 +1,15 @@
--- The window of a list of questions (specs/Steps): every legal minute lies in it, and it starts at the smallest legal
--- minute, or past the calendar where there is none.
+-- The window of a list of questions (specs/Steps): every legal minute lies in it, it starts at the smallest legal
+-- minute, or past the calendar where there is none, and it is made wider by one question after the other.
 -- Assumes nothing.
 use mathlib.Core.Bool.{Bool, true, false}
 use mathlib.Core.List.{List, [], _∷_, map}
 use mathlib.Core.Logic.{_⊎_, inl, inr}
-use mathlib.Core.Path.{_≡_, refl, _∙_}
-use Prim.Native.Nat.{ℕ, _+_, _≤_, min, max}
+use mathlib.Core.Path.{_≡_, refl, _∙_, ap}
+use Prim.Native.Nat.{ℕ, suc, _+_, _≤_, _<_, min, max}
 use native.Mathlib.Omega.{arith}
 use lib.Dec.{leb}
+use lib.ListN.{length, getD, drop, drop-of-length-le}
+use lib.Seq.{drop-cons}
 use borrow.Author.Tests.{leb-true, le-leb}
 use Rattle.lists.specs.Choice.{pick}
 use Rattle.lists.specs.Members.{all}
@@ -16,7 +18,7 @@ use Rattle.lists.proofs.Members.{all-keep}
 use Rattle.interval.specs.Time.{calendarEnd, span, contains}
 use Rattle.interval.specs.declared.time.Interval.{Interval}
 use Rattle.question.specs.Question.{legalMinutes, smallest}
-use Rattle.question.specs.Steps.{widenedBy, widenedAll, windowOf}
+use Rattle.question.specs.Steps.{noWindow, widenedBy, widenedAll, windowOf}
 use Rattle.question.specs.declared.Question.{Question}
 
 -- the question's minute is legal
@@ -126,3 +128,19 @@ window-starts qs = go (legalMinutes qs) (legal-minutes qs) (all-starts _ qs)
         let low = leb-true m calendarEnd (and-left (leb m calendarEnd) (all (λ m. leb m calendarEnd) ms) h) in
         let least = smallest-le m ms in
         e ∙ omega arith
+
+-- ---- made wider by one question after the other
+
+-- before the first question
+pub window-first : (qs : List Question) → widenedAll noWindow qs ≡ windowOf qs
+unfolding windowOf
+window-first qs = refl
+
+-- question i is next
+pub window-next : (v : Interval) (qs : List Question) (i : ℕ) (d : Question) → i < length qs
+    → widenedAll v (drop i qs) ≡ widenedAll (widenedBy v (getD qs i d)) (drop (suc i) qs)
+window-next v qs i d less = ap (widenedAll v) (drop-cons qs i d less)
+
+-- after the last
+pub window-last : (v : Interval) (qs : List Question) (i : ℕ) → length qs ≤ i → widenedAll v (drop i qs) ≡ v
+window-last v qs i over = ap (widenedAll v) (drop-of-length-le qs over)

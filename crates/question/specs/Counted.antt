@@ -1,5 +1,5 @@
--- What the answers say beyond the call: that enough is read. The proof is in proofs/Counted.antt; what the answers count
--- on a wall that is kept current is crate current_answers'.
+-- What the answers say beyond the call: that enough is read. The proof is in proofs/Counted.antt; what the answers
+-- count on a wall that is kept current is crate current_answers'.
 use mathlib.Core.List.{List, [], _∷_}
 use mathlib.Core.Path.{_≡_}
 use Prim.Native.Nat.{ℕ, _<_}

@@ -1,6 +1,6 @@
 // Point queries on the rows store (document 02, (g): a screenful of questions): one question, what a row adds to its
-// answer, and what has to be read of the store for a list of them. Crate questions asks a lent slice of questions, crate
-// question_words the same on a host's words.
+// answer, and what has to be read of the store for a list of them. Crate questions is lent a slice of questions, crate
+// question_words the same as a host's words.
 //
 // The definitions are in specs/: Question (what an answer is, what is read), Steps (what is done for a row).
 ghost use mathlib.Core.Path.{_≡_};

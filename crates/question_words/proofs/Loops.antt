@@ -16,6 +16,7 @@ use Rattle.interval.specs.declared.time.Interval.{Interval}
 use Rattle.question.specs.Question.{withAnswer}
 use Rattle.question.specs.Steps.{widenedBy, widenedAll, noWindow, windowOf}
 use Rattle.question.specs.declared.Question.{Question}
+use Rattle.question.proofs.Windows.{window-first, window-next, window-last}
 use Rattle.question_words.specs.QuestionWords.{questionWidth, questionWords, questionAt, questionsIn}
 use Rattle.question_words.specs.QuestionWords.{WholeQuestions, WordsBecame}
 use Rattle.question_words.proofs.Words.{words-length, words-at, words-set, words-questions}
@@ -98,17 +99,16 @@ Window ws i v = widenedAll v (drop i (questionsIn ws)) ≡ windowOf (questionsIn
 
 module _ (ws : List ℕ) where
   pub window-none : (v : Interval) → v ≡ noWindow → Window ws 0 v
-  unfolding windowOf
-  window-none v e = ap (λ (u : Interval). widenedAll u (questionsIn ws)) e
+  window-none v e = ap (λ (u : Interval). widenedAll u (questionsIn ws)) e ∙ window-first (questionsIn ws)
 
   pub window-more : (i : ℕ) (v : Interval) (q : Question) → Window ws i v → i < length ws / questionWidth
       → q ≡ getD (questionsIn ws) i q → (v′ : Interval) → v′ ≡ widenedBy v q → Window ws (i + 1) v′
   window-more i v q h l at v′ e =
       let m : i < length (questionsIn ws) = omega (arith, questions-length ws) in
-      rw (e ∙ ap (widenedBy v) at, add-one) (rw (drop-cons (questionsIn ws) i q m) at h)
+      rw (e ∙ ap (widenedBy v) at, add-one) (sym (window-next v (questionsIn ws) i q m) ∙ h)
 
   pub window-all : (i : ℕ) (v : Interval) → Window ws i v → length ws / questionWidth ≤ i
       → v ≡ windowOf (questionsIn ws)
   window-all i v h l =
       let m : length (questionsIn ws) ≤ i = omega (arith, questions-length ws) in
-      rw (drop-of-length-le (questionsIn ws) m) at h
+      sym (window-last v (questionsIn ws) i m) ∙ h

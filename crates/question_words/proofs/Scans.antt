@@ -1,25 +1,22 @@
--- The invariant of the loop over the rows of a scan: the rows that are left at a cursor are still to be counted, for
--- which the answers have room.
--- In order: the start, room for the next row, what is left after it, one more, the end.
+-- The invariant of the loop over the rows of a scan (crate question's `Counting`), of the questions in words.
+-- In order: the start, room for the next row, one more, the end.
 -- Assumes nothing.
 use mathlib.Core.Bool.{true, false}
 use mathlib.Core.List.{List, map}
-use mathlib.Core.Path.{_≡_, sym, ap, _∙_}
-use Prim.Native.Nat.{ℕ, _<_}
-use native.Mathlib.Omega.{arith}
+use mathlib.Core.Path.{_≡_, refl, sym, ap, _∙_}
+use Prim.Native.Nat.{ℕ}
 use lib.ListN.{length}
 use Rattle.lists.specs.Members.{gather}
 use Rattle.interval.specs.declared.tuple.Row.{Row}
-use Rattle.cursor.specs.Cursor.{chosen, current, left, Stands, Started, Advanced}
+use Rattle.cursor.specs.Cursor.{chosen, current, Started, Advanced}
 use Rattle.cursor.specs.declared.Cursor.{Cursor}
 use Rattle.cursor.specs.declared.Scan.{Scan}
-use Rattle.cursor.proofs.Cursors.{left-first}
 use Rattle.question.specs.Steps.{withRow, afterRows, roomFor}
 use Rattle.question.specs.declared.Question.{Question}
+use Rattle.question.proofs.Turns.{Counting, counting-first, counting-room, counting-next, counting-end}
 use Rattle.question_words.specs.QuestionWords.{questionWords, questionsIn}
 use Rattle.question_words.specs.QuestionWords.{WholeQuestions, WordsBecame}
 use Rattle.question_words.proofs.Words.{questions-words, words-questions}
-use Rattle.question.proofs.Rooms.{room-one, room-next}
 
 -- words of the length of whole questions are whole questions
 pub whole-long : (ws ws′ : List ℕ) → length ws′ ≡ length ws → WholeQuestions ws → WholeQuestions ws′
@@ -30,50 +27,39 @@ pub became-questions : {qs : List Question} {ws ws′ : List ℕ} → WordsBecam
 became-questions {qs} b = rw (b .words) (questions-words qs)
 
 -- of the rows of a scan, counted for the questions in the words ws, those at a cursor are left; the words are ws′ now
-pub record Counting (s : Scan) (rows ws : List ℕ) (at : Cursor) (ws′ : List ℕ) : Type 0 where
-  pub stands : Stands s rows at
+pub record CountingWords (s : Scan) (rows ws : List ℕ) (at : Cursor) (ws′ : List ℕ) : Type 0 where
+  pub counting : Counting s rows (questionsIn ws) at (questionsIn ws′)
   pub whole : WholeQuestions ws′
   pub long : length ws′ ≡ length ws
-  pub room : roomFor (length (left s rows at)) (questionsIn ws′) ≡ true
-  pub rest : afterRows (left s rows at) (questionsIn ws′) ≡ afterRows (chosen s rows) (questionsIn ws)
 
 module _ (s : Scan) (rows ws : List ℕ) where
-  pub counting-none : WholeQuestions ws → roomFor (length (chosen s rows)) (questionsIn ws) ≡ true → (at : Cursor)
-      → Started s rows at → Counting s rows ws at ws
-  counting-none h room at started = record {
-    stands = started .stands;
+  pub words-first : WholeQuestions ws → roomFor (length (chosen s rows)) (questionsIn ws) ≡ true → (at : Cursor)
+      → Started s rows at → CountingWords s rows ws at ws
+  words-first h room at started = record {
+    counting = counting-first s rows (questionsIn ws) at started room;
     whole = h;
-    long = λ i. length ws;
-    room = rw (started .rest) room;
-    rest = ap (λ (rs : List Row). afterRows rs (questionsIn ws)) (started .rest);
+    long = refl;
   }
 
   -- room for the next row
-  pub counting-room : (at : Cursor) {ws′ : List ℕ} → Counting s rows ws at ws′ → at .found ≡ true
+  pub words-room : (at : Cursor) {ws′ : List ℕ} → CountingWords s rows ws at ws′ → at .found ≡ true
       → roomFor 1 (questionsIn ws′) ≡ true
-  counting-room at {ws′} k found =
-      room-one _ (questionsIn ws′) (rw (left-first s rows at (k .stands) found) at (k .room))
-
-  -- after it one row less is left
-  pub left-less : (at at′ : Cursor) → Advanced s rows at at′ → length (left s rows at′) < length (left s rows at)
-  left-less at at′ next = rw (next .rest) (omega arith)
+  words-room at {ws′} k found = counting-room s rows (questionsIn ws) at (questionsIn ws′) (k .counting) found
 
   -- it was counted
-  pub counting-more : (at at′ : Cursor) {ws′ ws″ : List ℕ} → Counting s rows ws at ws′ → Advanced s rows at at′
+  pub words-next : (at at′ : Cursor) {ws′ ws″ : List ℕ} → CountingWords s rows ws at ws′ → Advanced s rows at at′
       → (r : Row) → r ≡ current s rows at → WordsBecame (map (withRow r) (questionsIn ws′)) ws′ ws″
-      → Counting s rows ws at′ ws″
-  counting-more at at′ {ws′} {ws″} k next r e b = record {
-    stands = next .stands;
+      → CountingWords s rows ws at′ ws″
+  words-next at at′ {ws′} {ws″} k next r e b = record {
+    counting =
+        counting-next s rows (questionsIn ws) at (questionsIn ws′) (k .counting) r e (questionsIn ws″)
+        (became-questions b) at′ next;
     whole = whole-long ws′ ws″ (b .long) (k .whole);
     long = b .long ∙ k .long;
-    room = rw (became-questions b) (room-next _ r (questionsIn ws′) (rw (next .rest) at (k .room)));
-    rest = rw (became-questions b, e) (ap (λ (rs : List Row). afterRows rs (questionsIn ws′)) (sym (next .rest))
-        ∙ k .rest);
   }
 
-  pub counting-all : (at : Cursor) {ws′ : List ℕ} → Counting s rows ws at ws′ → at .found ≡ false
+  pub words-end : (at : Cursor) {ws′ : List ℕ} → CountingWords s rows ws at ws′ → at .found ≡ false
       → WordsBecame (afterRows (chosen s rows) (questionsIn ws)) ws ws′
-  counting-all at {ws′} k ended =
-      let done : questionsIn ws′ ≡ afterRows (chosen s rows) (questionsIn ws) =
-      rw (k .stands .ended ended) at (k .rest) in
+  words-end at {ws′} k ended =
+      let done = counting-end s rows (questionsIn ws) at (questionsIn ws′) (k .counting) ended in
       record { words = sym (words-questions ws′ (k .whole)) ∙ ap (gather questionWords) done; long = k .long }

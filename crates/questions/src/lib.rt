@@ -4,8 +4,8 @@
 // Nothing has to be checked before calling, and a refusal changes no question. Checks come first, of the plan and the
 // rows store, which is the only store lent; then the rows from the partition of the smallest legal minute up are read,
 // each once for the whole list: rows outside, questions inside. No memory beyond what is lent.
-// Cost: check 5 of the rows store, and for each row that has a chronon in common with the questions' window a comparison
-// with each question.
+// Cost: check 5 of the rows store, and for each row that has a chronon in common with the questions' window a
+// comparison with each question.
 //
 // The slice of structs is the form that document 01 names: its functions are thin walks over functions of one question
 // (crate question) and of a cursor over the rows store (crate cursor). The definitions are in specs/Answered.

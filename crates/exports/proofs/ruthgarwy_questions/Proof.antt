@@ -1,5 +1,5 @@
--- `exports::ruthgarwy_questions` meets its contract: lengths, then `question_words::answer` with the plan that the words
--- say.
+-- `exports::ruthgarwy_questions` meets its contract: lengths, then `question_words::answer` with the plan that the
+-- words say.
 -- Assumes nothing.
 use mathlib.Core.Path.{_≡_, refl, sym, _∙_, subst}
 use Rattle.layout.specs.Layout.{planIn, answerFits, lentNumber}

@@ -1,15 +1,15 @@
--- `question_words::count_rows` meets its contract. The loop's invariant is `Counting`: the rows that are left at the
--- cursor are still to be counted. The measure is how many they are.
+-- `question_words::count_rows` meets its contract. The loop's invariant is `CountingWords`: the rows that are left at
+-- the cursor are still to be counted. The measure is how many they are.
 -- Assumes nothing.
 use lib.ListN.{length}
 use Rattle.cursor.specs.Cursor.{left}
-use Rattle.question_words.proofs.Scans.{Counting, counting-none, counting-room, counting-more, counting-all}
-use Rattle.question_words.proofs.Scans.{left-less}
+use Rattle.question.proofs.Turns.{counting-less}
+use Rattle.question_words.proofs.Scans.{CountingWords, words-first, words-room, words-next, words-end}
 use Rattle.question_words.proofs.count_rows.Statement.{statement}
 use Rattle.question_words.proofs.count_rows.Tie as tie
 
 abbrev Inv-loop : tie.InvT-loop
-Inv-loop rows scan ws₀ at₀ ws at = Counting scan rows ws₀ at ws
+Inv-loop rows scan ws₀ at₀ ws at = CountingWords scan rows ws₀ at ws
 
 abbrev μ-loop : tie.MeasureT-loop
 μ-loop rows scan ws₀ at₀ ws at = length (left scan rows at)
@@ -20,42 +20,42 @@ first-requires c κs = c .before .before .pre .1 .0
 loop-holds : tie.Need-loop-holds Inv-loop μ-loop
 loop-holds c =
     let start = c .before .before .before in
-    counting-none _ _ _ (start .pre .0) (start .pre .1 .1) (c .first .result) (c .first .ensures)
+    words-first _ _ _ (start .pre .0) (start .pre .1 .1) (c .first .result) (c .first .ensures)
 
 row-at-requires : tie.Need-row-at-requires Inv-loop μ-loop
 row-at-requires c κs =
-    (c .before .before .before .before .before .pre .1 .0, (c .before .loop .inv .stands, c .loop-test .taken))
+    (c .before .before .before .before .before .pre .1 .0, (c .before .loop .inv .counting .stands, c .loop-test .taken))
 
 count-row-requires : tie.Need-count-row-requires Inv-loop μ-loop
 count-row-requires c κs =
     let turn = c .before .before in
     let inv = turn .before .loop .inv in
-    (inv .whole, counting-room _ _ _ (turn .before .loop .at) inv (turn .loop-test .taken))
+    (inv .whole, words-room _ _ _ (turn .before .loop .at) inv (turn .loop-test .taken))
 
 next-requires : tie.Need-next-requires Inv-loop μ-loop
 next-requires c κs =
     let turn = c .before .before .before .before .before in
-    (turn .before .before .before .before .before .pre .1 .0, (turn .before .loop .inv .stands, turn .loop-test .taken))
+    (turn .before .before .before .before .before .pre .1 .0, (turn .before .loop .inv .counting .stands, turn .loop-test .taken))
 
 loop-less : tie.Need-loop-less Inv-loop μ-loop
 loop-less c =
     let at = c .before .before .before .before .before .before .before in
     let a = at .before .before .before .before .args in
-    left-less (a .scan) (a .rows .now) (a .ws .now) (at .loop .at) (c .next .result) (c .next .ensures)
+    counting-less (a .scan) (a .rows .now) (at .loop .at) (c .next .result) (c .next .ensures)
 
 loop-again : tie.Need-loop-again Inv-loop μ-loop
 loop-again c =
     let counted = c .before .before .before in
     let read = counted .before .before in
     let at = read .before .before .loop in
-    counting-more _ _ _ (at .at) (c .next .result) (at .inv) (c .next .ensures) (read .row-at .result)
+    words-next _ _ _ (at .at) (c .next .result) (at .inv) (c .next .ensures) (read .row-at .result)
     (read .row-at .ensures) (counted .count-row .ensures)
 
 same-length : tie.Need-same-length Inv-loop μ-loop
 same-length c = c .before .loop .inv .long
 
 returns : tie.Need-returns Inv-loop μ-loop
-returns c = counting-all _ _ _ (c .before .loop .at) (c .before .loop .inv) (c .loop-test .left)
+returns c = words-end _ _ _ (c .before .loop .at) (c .before .loop .inv) (c .loop-test .left)
 
 pub count-rows-spec : {M : Type 1} → statement M
 count-rows-spec =

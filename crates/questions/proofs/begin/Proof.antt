@@ -77,7 +77,7 @@ use Rattle.question.proofs.cleared.Met as cleared-thm
 use Rattle.questions.proofs.BeginCalls.{NoWindow, Widened, Cleared, no-window-of, widened-of, cleared-of}
 use Rattle.questions.proofs.BeginCalls.{to-no-window, to-widened, to-cleared}
 use Rattle.questions.proofs.BeginCalls.{goes-no-window, goes-widened, goes-cleared}
-use Rattle.questions.proofs.Windows.{window-first, window-next, window-last}
+use Rattle.question.proofs.Windows.{window-first, window-next, window-last}
 use Rattle.questions.proofs.begin.Key.{name as #questions·begin}
 use Rattle.questions.proofs.begin as begin
 use Rattle.questions.proofs.begin.Statement as stated

@@ -60,8 +60,8 @@ use Rattle.questions.proofs.Again.{LentAgain, lends-again, comes-back}
 use Rattle.questions.proofs.CursorCalls.{cv, First, RowAt, Next, first-of, row-of, next-of, cursor-val}
 use Rattle.questions.proofs.CursorCalls.{cursor-is}
 use Rattle.questions.proofs.CursorCalls.{to-first, to-row, to-next, goes-first, goes-row, goes-next}
-use Rattle.questions.proofs.Turns.{Counting, counting-first, counting-room, counting-next, counting-end}
-use Rattle.questions.proofs.Turns.{counting-less}
+use Rattle.question.proofs.Turns.{Counting, counting-first, counting-room, counting-next, counting-end}
+use Rattle.question.proofs.Turns.{counting-less}
 use Rattle.question.proofs.Question as Q
 use Rattle.interval.proofs.tuple.Row as R
 use Rattle.interval.proofs.tuple.Row.Laws as R′
