@@ -35,7 +35,7 @@ typedef struct {
 enum { DONE = 0, WRONG = 1, TOO_LONG = 2 };
 
 // A way of joining. `open`, `rows` and `close` are not timed. Each of the other four answers DONE, WRONG or TOO_LONG (past
-// the limit of LIMIT_MS milliseconds).
+// the limit of limit_ms milliseconds).
 typedef struct {
     const char *name;
     int (*open)(const shape *);
@@ -47,7 +47,7 @@ typedef struct {
     void (*close)(void);
 } peer;
 
-#define LIMIT_MS 10000.0
+extern double limit_ms; // of a statement or a join
 
 extern const peer library, by_hand, nested_loops, hash_join, sqlite, postgres, postgres_gist;
 
@@ -78,6 +78,26 @@ stores lend_by_hand(stores lent);
 // A recut to other last minutes, as many as there are lanes; answers with the call's number.
 uint64_t recut_library(const uint64_t *next);
 uint64_t recut_by_hand(const uint64_t *next);
+
+// A question of a screenful: how many rows have that label and contain that minute.
+typedef struct {
+    uint64_t label, minute, answer;
+} question;
+
+// A way of answering a list of questions about a shape's rows. `open`, `lay` and `close` are not timed, and may be null.
+// `ask` answers DONE, WRONG or TOO_LONG; the rows read are 0 where nobody counts them. With no questions it makes its checks
+// only.
+typedef struct {
+    const char *name;
+    int served; // whether another process answers, so that only the clock tells its time
+    int (*open)(const shape *);
+    int (*lay)(const question *list, size_t count); // puts the questions where a statement reads them
+    int (*ask)(question *list, size_t count, uint64_t *read);
+    void (*close)(void);
+} asker;
+
+extern const asker asking_library, asking_by_hand, asking_by_label, asking_sqlite;
+extern const asker asking_postgres_label, asking_postgres, asking_postgres_gist;
 
 double now_ms(void);
 // each word of the library's three stores read once

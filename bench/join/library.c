@@ -91,6 +91,14 @@ uint64_t recut_library(const uint64_t *next)
                                  tuple_words, made, row_words, answer, RUTHGARWY_ANSWER_WORDS);
 }
 
+static int questions_library(question *list, size_t count, uint64_t *read)
+{
+    uint64_t number = ruthgarwy_questions(plan, RUTHGARWY_PLAN_WORDS, made, row_words, (uint64_t *)list,
+                                          count * RUTHGARWY_QUESTION_WORDS, answer, RUTHGARWY_ANSWER_WORDS);
+    *read = answer[RUTHGARWY_ANSWER_EXAMINED];
+    return number || answer[RUTHGARWY_ANSWER_CHANGED] ? WRONG : DONE;
+}
+
 static uint64_t sum_of(const uint64_t *words, size_t count)
 {
     uint64_t sum = 0;
@@ -106,3 +114,4 @@ static fingerprint rows_library(void) { return rows_in_store(plan[0], made); }
 static void close_library(void) { free(outer), free(inner), free(made), free(outer_cache), free(inner_cache); }
 
 const peer library = {"library", open_library, join_library, insert_library, withdraw_library, check_library, rows_library, close_library};
+const asker asking_library = {"library", 0, open_library, 0, questions_library, close_library};

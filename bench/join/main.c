@@ -1,5 +1,6 @@
 // Times the whole join, an insert, a withdrawal and check 5 of the static library beside its peers, on the same data in one
-// run, what a sweep will take beside the sweep's own checks, and a recut beside the same by hand in C, and prints tables.
+// run, what a sweep will take beside the sweep's own checks, a recut beside the same by hand in C and a screenful of
+// questions beside others' ways of answering, and prints tables.
 // Shapes after figures 11 to 13 of document 002. Exits 1 if any peer's rows are not the library's.
 #include "bench.h"
 #include <inttypes.h>
@@ -7,6 +8,8 @@
 #include <stdlib.h>
 #include <string.h>
 #include <time.h>
+
+double limit_ms = 10000;
 
 double now_ms(void)
 {
@@ -172,7 +175,7 @@ static void wrong(const char *what, const char *who)
 static void cell(double ms)
 {
     if (ms < 0)
-        printf(" over %.0f |", LIMIT_MS);
+        printf(" over %.0f |", limit_ms);
     else
         printf(ms < 10 ? " %.3f |" : " %.1f |", ms);
 }
@@ -180,7 +183,7 @@ static void cell(double ms)
 static void ratio(double ours, double theirs)
 {
     if (theirs < 0)
-        printf(" under %.4f |", ours / LIMIT_MS);
+        printf(" under %.4f |", ours / limit_ms);
     else
         printf(ours / theirs < 0.1 ? " %.4f |" : " %.2f |", ours / theirs);
 }
@@ -693,6 +696,264 @@ static void recuts(void)
     fflush(stdout);
 }
 
+// ---- a screenful of questions
+
+enum { MOST_QUESTIONS = 1000, MOST_TURNS = 45 };
+
+static const asker *const askers[] = {&asking_library,
+                                      &asking_by_hand,
+                                      &asking_by_label,
+#ifdef WITH_SQLITE
+                                      &asking_sqlite,
+#endif
+#ifdef WITH_POSTGRES
+                                      &asking_postgres_label,
+                                      &asking_postgres,
+                                      &asking_postgres_gist,
+#endif
+};
+// the first three are programs in C and work on the library's stores; the first two of them make check 5
+enum { ASKERS = sizeof askers / sizeof *askers, STORED = 3, CHECKED = 2 };
+
+static uint64_t label_in(uint64_t labels, int colliding)
+{
+    uint64_t label = from_to(1, labels);
+    return colliding ? 1 + (label << 20) : label; // as those of the joins
+}
+
+// Full lanes of rows. A row ends anywhere in its lane and lasts 1 to 60 minutes; 6 of 100 run for half of the calendar, or
+// from its first minute.
+static shape make_rows(uint64_t labels, int colliding)
+{
+    shape s = {.lanes = MOST_LANES};
+    row *r = room(MOST_LANES * ROWS, sizeof *r);
+    even_cuts(&s);
+    seed = 1;
+    for (size_t i = 0; i < s.lanes; i++)
+        for (int k = 0; k < ROWS; k++) {
+            uint64_t last = from_to(i ? s.cuts[i - 1] + 1 : 0, s.cuts[i]);
+            uint64_t more = from_to(1, 100) <= 6 ? LAST_MINUTE / 2 : from_to(0, 59);
+            uint64_t label = label_in(labels, colliding), drawing = from_to(0, LAST_NUMBER), spot = from_to(0, LAST_NUMBER);
+            r[s.row_count++] = (row){label, drawing, spot, last < more ? 0 : last - more, last};
+        }
+    s.rows = r;
+    return s;
+}
+
+// A list of questions, with what the library answers, the rows that have to be read for it, counted here of the rows as
+// they were made, and how many of them have a minute from the smallest to the largest one asked for.
+typedef struct {
+    question list[MOST_QUESTIONS];
+    size_t count;
+    uint64_t stored, met, above; // above: the answers above 0
+} screen;
+
+// Questions about these minutes. Where they are more than one, every other question is about the label and a minute of a row
+// that ends among them, the others are about any.
+static screen make_screen(const shape *s, uint64_t labels, int colliding, size_t count, uint64_t first, uint64_t last)
+{
+    screen c = {.count = count};
+    uint64_t least = LAST_MINUTE, most = 0;
+    for (size_t q = 0; q < count; q++) {
+        c.list[q].label = label_in(labels, colliding), c.list[q].minute = from_to(first, last);
+        if (q % 2 == 0 && first < last) {
+            const row *r = s->rows + from_to(lane_of(s->cuts, first) * ROWS, s->row_count - 1);
+            c.list[q].label = r->label, c.list[q].minute = from_to(r->first < first ? first : r->first, r->last);
+        }
+        least = c.list[q].minute < least ? c.list[q].minute : least;
+        most = c.list[q].minute > most ? c.list[q].minute : most;
+    }
+    for (size_t k = 0; k < s->row_count; k++)
+        if (lane_of(s->cuts, s->rows[k].last) >= lane_of(s->cuts, least))
+            c.stored++, c.met += s->rows[k].first <= most && least <= s->rows[k].last;
+    return c;
+}
+
+// the list as it is handed over: what stands in the places for answers is to make no difference
+static void hand_over(const screen *c, question *given)
+{
+    for (size_t q = 0; q < c->count; q++)
+        given[q] = (question){c->list[q].label, c->list[q].minute, UINT64_MAX - q};
+}
+
+static void same_answers(const screen *c, const question *given, const asker *who)
+{
+    if (memcmp(given, c->list, c->count * sizeof *given))
+        wrong("its answers are not the library's", who->name);
+}
+
+// The programs in C take turns. A call with no questions makes the checks and reads nothing: that is check 5.
+static void by_turns(screen *c, double ms[STORED], double check[CHECKED])
+{
+    static question given[MOST_QUESTIONS];
+    double spent = 0;
+    for (int turn = -1; turn < MOST_TURNS && spent < 1.5 * ENOUGH_MS; turn++) // the first one warms up
+        for (int p = 0; p < STORED; p++) {
+            int who = (p + turn + 1) % STORED; // now one is first, now another
+            uint64_t none = 0, read;
+            double at[3];
+            hand_over(c, given);
+            at[0] = processor_ms();
+            int x = who < CHECKED ? askers[who]->ask(given, 0, &none) : DONE;
+            at[1] = processor_ms();
+            int y = askers[who]->ask(given, c->count, &read);
+            at[2] = processor_ms();
+            if (x || y || none || read != c->stored)
+                wrong("it was refused, or read other rows than it should", askers[who]->name);
+            if (turn < 0 && !who)
+                for (size_t q = 0; q < c->count; q++)
+                    c->list[q].answer = given[q].answer, c->above += given[q].answer > 0;
+            same_answers(c, given, askers[who]);
+            if (turn <= 0 || at[2] - at[1] < ms[who])
+                ms[who] = at[2] - at[1];
+            if (who < CHECKED && (turn <= 0 || at[1] - at[0] < check[who]))
+                check[who] = at[1] - at[0];
+            spent += turn < 0 ? 0 : at[2] - at[0];
+        }
+}
+
+// a database, which is open
+static double by_statement(const screen *c, const asker *who)
+{
+    static question given[MOST_QUESTIONS];
+    const double enough = ENOUGH_MS / 4;
+    times t = {.runs = 0};
+    double spent = 0;
+    int answer = who->lay ? who->lay(c->list, c->count) : DONE;
+    for (int run = -1; run < MOST_RUNS && spent < enough && !answer; run++) {
+        uint64_t unknown;
+        hand_over(c, given);
+        double began = who->served ? now_ms() : processor_ms();
+        answer = who->ask(given, c->count, &unknown);
+        double took = (who->served ? now_ms() : processor_ms()) - began;
+        if (!answer)
+            same_answers(c, given, who);
+        if (run >= 0 || took > enough) // the first one warms up
+            t.at[t.runs++] = took, spent += took;
+    }
+    if (answer == WRONG)
+        wrong("the questions were not answered", who->name);
+    return answer == TOO_LONG ? -1 : best(&t);
+}
+
+static void open_stored(const shape *s, stores *own)
+{
+    if (asking_library.open(s) || asking_by_hand.open(s))
+        wrong("not opened", "questions");
+    *own = lend_by_hand(stores_of_library());
+}
+
+static void close_stored(stores own)
+{
+    lend_by_hand(own);
+    asking_library.close(), asking_by_hand.close();
+}
+
+// the middle cells of a table's head, and the line below it
+static void asker_head(const char *what, int from, int to, int others)
+{
+    for (int p = from; p < to; p++)
+        printf(" | %s%s", what, askers[p]->name);
+    printf(" |\n|");
+    for (int p = from; p < to + others; p++)
+        printf("---|");
+    printf("\n");
+}
+
+static void screenfuls(void)
+{
+    enum { LABELS = 4096, SCREENS = 6 };
+    const double usual = limit_ms;
+    shape s = make_rows(LABELS, 0);
+    const uint64_t middle = (LAST_MINUTE + 1) / 2, last_lane = s.cuts[s.lanes - 2] + 1;
+    const struct {
+        const char *name;
+        size_t count;
+        uint64_t first, last; // the minutes that are asked for
+    } kinds[SCREENS] = {{"1, anywhere", 1, 0, LAST_MINUTE},
+                        {"10, anywhere", 10, 0, LAST_MINUTE},
+                        {"100, anywhere", 100, 0, LAST_MINUTE},
+                        {"1,000, anywhere", 1000, 0, LAST_MINUTE},
+                        {"1,000, all at one minute in the middle", 1000, middle, middle},
+                        {"1,000, minutes of the last lane", 1000, last_lane, LAST_MINUTE}};
+    static screen screens[SCREENS];
+    double ms[SCREENS][ASKERS], check[SCREENS][CHECKED];
+    stores own;
+    open_stored(&s, &own);
+    for (size_t c = 0; c < SCREENS; c++) {
+        screens[c] = make_screen(&s, LABELS, 0, kinds[c].count, kinds[c].first, kinds[c].last);
+        by_turns(screens + c, ms[c], check[c]);
+    }
+    close_stored(own);
+    limit_ms = 2000;
+    for (int p = STORED; p < ASKERS; p++) {
+        if (askers[p]->open(&s))
+            wrong("not opened", askers[p]->name);
+        for (size_t c = 0; c < SCREENS; c++)
+            ms[c][p] = by_statement(screens + c, askers[p]);
+        askers[p]->close();
+    }
+    free((void *)s.rows);
+    printf("\n### A screenful of questions: 64 lanes of 4,096 rows, 4,096 labels, 6 rows of 100 for half of the calendar\n\n");
+    printf("| questions | rows read | rows compared | answers above 0");
+    asker_head("ms, ", 0, ASKERS, 4);
+    for (size_t c = 0; c < SCREENS; c++) {
+        printf("| %s | %" PRIu64 " | %" PRIu64 " | %" PRIu64 " |", kinds[c].name, screens[c].stored, screens[c].met, screens[c].above);
+        for (int p = 0; p < ASKERS; p++)
+            cell(ms[c][p]);
+        printf("\n");
+    }
+    printf("\n| a screenful: library's time as a part of the peer's | questions");
+    asker_head("of ", 1, ASKERS, 2);
+    for (size_t c = 0; c < SCREENS; c++) {
+        printf("| | %s |", kinds[c].name);
+        for (int p = 1; p < ASKERS; p++)
+            ratio(ms[c][0], ms[c][p]);
+        printf("\n");
+    }
+    limit_ms = usual;
+    // check 5 is a call with no questions, reading the rest of a screenful
+    printf("\n| parts of a screenful | pairs compared | ms, check 5, library | ms, check 5, by hand in C | ms, reading, library |");
+    printf(" ms, reading, by hand in C | reading, library / by hand | nanoseconds a row read, library | .. by hand in C |");
+    printf(" nanoseconds a pair, library | .. by hand in C |\n|---|---|---|---|---|---|---|---|---|---|---|\n");
+    for (size_t c = 0; c < SCREENS; c++) {
+        uint64_t pairs = screens[c].met * screens[c].count;
+        double reading[CHECKED];
+        printf("| %s | %" PRIu64 " |", kinds[c].name, pairs);
+        cell(check[c][0]), cell(check[c][1]);
+        for (int p = 0; p < CHECKED; p++)
+            cell(reading[p] = ms[c][p] - check[c][p]);
+        printf(" %.2f |", reading[0] / reading[1]);
+        for (int p = 0; p < CHECKED; p++)
+            printf(" %.2f |", 1e6 * reading[p] / (double)screens[c].stored);
+        for (int p = 0; p < CHECKED; p++)
+            printf(" %.2f |", 1e6 * reading[p] / (double)pairs);
+        printf("\n");
+    }
+    // of how many labels a list of questions in a hash table has to do with
+    static const struct {
+        const char *name;
+        uint64_t labels;
+        int colliding;
+    } sets[] = {{"1", 1, 0}, {"8", 8, 0}, {"64", 64, 0}, {"512", 512, 0}, {"4096", 4096, 0}, {"4096, colliding", 4096, 1}};
+    printf("\n| labels: 1,000 questions, minutes of the last lane | answers above 0");
+    asker_head("ms, ", 0, STORED, 2);
+    for (size_t c = 0; c < sizeof sets / sizeof *sets; c++) {
+        double took[STORED], unused[CHECKED];
+        s = make_rows(sets[c].labels, sets[c].colliding);
+        screens[0] = make_screen(&s, sets[c].labels, sets[c].colliding, 1000, last_lane, LAST_MINUTE);
+        open_stored(&s, &own);
+        by_turns(screens, took, unused);
+        close_stored(own);
+        printf("| %s | %" PRIu64 " |", sets[c].name, screens[0].above);
+        for (int p = 0; p < STORED; p++)
+            cell(took[p]);
+        printf("\n");
+        free((void *)s.rows);
+    }
+    fflush(stdout);
+}
+
 #define COUNT(a) (sizeof(a) / sizeof *(a))
 
 int main(int count, char **words)
@@ -731,5 +992,7 @@ int main(int count, char **words)
         asking();
     if (!*only || !strcmp(only, "recut"))
         recuts();
+    if (!*only || !strcmp(only, "questions"))
+        screenfuls();
     return 0;
 }

@@ -1,5 +1,7 @@
 // PostgreSQL over a socket, with a GiST index on the spans (int8range) of each table and one on the label of the rows: once
-// as its planner chooses, and once with hash and merge joins turned off, so that it goes by the GiST index.
+// as its planner chooses, and once with hash and merge joins turned off, so that it goes by the GiST index. A screenful of
+// questions is one statement over a table of them, with the index on the label of the rows, with a GiST index on their spans
+// beside it, and with that alone.
 #include "bench.h"
 #include <libpq-fe.h>
 #include <inttypes.h>
@@ -9,26 +11,49 @@
 
 static PGconn *db;
 
-static int run(const char *sql)
+static int status_of(const PGresult *r)
 {
-    PGresult *r = PQexec(db, sql);
     ExecStatusType status = PQresultStatus(r);
     const char *state = PQresultErrorField(r, PG_DIAG_SQLSTATE);
     int answer = status == PGRES_COMMAND_OK || status == PGRES_TUPLES_OK ? DONE : state && !strcmp(state, "57014") ? TOO_LONG : WRONG;
     if (answer == WRONG)
         fprintf(stderr, "PostgreSQL: %s", PQerrorMessage(db));
+    return answer;
+}
+
+static int run(const char *sql)
+{
+    PGresult *r = PQexec(db, sql);
+    int answer = status_of(r);
     if (answer != DONE) // nothing is left open
         PQclear(PQexec(db, "ROLLBACK"));
     PQclear(r);
     return answer;
 }
 
-static int copy(const char *sql, size_t width, const uint64_t *words, size_t count)
+static int copying(const char *sql)
 {
     PGresult *r = PQexec(db, sql);
     int ready = PQresultStatus(r) == PGRES_COPY_IN;
     PQclear(r);
-    if (!ready)
+    return ready ? DONE : WRONG;
+}
+
+static int copied(void)
+{
+    if (PQputCopyEnd(db, 0) != 1)
+        return WRONG;
+    PGresult *r = PQgetResult(db);
+    int stored = PQresultStatus(r) == PGRES_COMMAND_OK;
+    PQclear(r);
+    while ((r = PQgetResult(db)))
+        PQclear(r);
+    return stored ? DONE : WRONG;
+}
+
+static int copy(const char *sql, size_t width, const uint64_t *words, size_t count)
+{
+    if (copying(sql))
         return WRONG;
     char line[160];
     for (size_t k = 0; k < count; k++) {
@@ -39,14 +64,7 @@ static int copy(const char *sql, size_t width, const uint64_t *words, size_t cou
         n += sprintf(line + n, "[%" PRIu64 ",%" PRIu64 "]\n", w[width - 2], w[width - 1]);
         PQputCopyData(db, line, n);
     }
-    if (PQputCopyEnd(db, 0) != 1)
-        return WRONG;
-    r = PQgetResult(db);
-    int stored = PQresultStatus(r) == PGRES_COMMAND_OK;
-    PQclear(r);
-    while ((r = PQgetResult(db)))
-        PQclear(r);
-    return stored ? DONE : WRONG;
+    return copied();
 }
 
 static int prepared(const char *name, const char *sql)
@@ -59,16 +77,26 @@ static int prepared(const char *name, const char *sql)
     return ready ? DONE : WRONG;
 }
 
-static int open_postgres(const shape *s)
+static int connect_postgres(void)
 {
     db = PQconnectdb("dbname=postgres"); // the server that the environment names
-    if (PQstatus(db) != CONNECTION_OK) {
-        fprintf(stderr, "PostgreSQL: %s", PQerrorMessage(db));
-        return WRONG;
-    }
+    if (PQstatus(db) == CONNECTION_OK)
+        return DONE;
+    fprintf(stderr, "PostgreSQL: %s", PQerrorMessage(db));
+    return WRONG;
+}
+
+static int limit_postgres(void)
+{
     char limit[96];
-    sprintf(limit, "SET statement_timeout = %.0f; SET max_parallel_workers_per_gather = 0", LIMIT_MS);
-    return run("SET client_min_messages = warning; DROP TABLE IF EXISTS drawing, spot, made;"
+    sprintf(limit, "SET statement_timeout = %.0f; SET max_parallel_workers_per_gather = 0", limit_ms);
+    return run(limit);
+}
+
+static int open_postgres(const shape *s)
+{
+    return connect_postgres()
+        || run("SET client_min_messages = warning; DROP TABLE IF EXISTS drawing, spot, made;"
                "CREATE UNLOGGED TABLE drawing(label int8, number int8, span int8range);"
                "CREATE UNLOGGED TABLE spot(label int8, number int8, span int8range);"
                "CREATE UNLOGGED TABLE made(label int8, drawing int8, spot int8, span int8range)")
@@ -85,7 +113,7 @@ static int open_postgres(const shape *s)
                                     "AND span = int8range($3::int8, $4::int8, '[]') LIMIT 1)")
         // the drawing that the benchmark withdraws has a number of its own, so its rows are those with its label and number
         || prepared("drop_rows", "DELETE FROM made WHERE label = $1::int8 AND drawing = $2::int8 AND span <@ int8range($3::int8, $4::int8, '[]')")
-        || run(limit);
+        || limit_postgres();
 }
 
 static int open_gist(const shape *s)
@@ -139,6 +167,53 @@ static int check_postgres(void)
     return none ? DONE : WRONG;
 }
 
+// the rows with the index on their label alone
+static int open_questions(const shape *s)
+{
+    return open_postgres(s) || run("DROP TABLE IF EXISTS question; CREATE UNLOGGED TABLE question(place int8, label int8, minute int8)");
+}
+
+// on the tables of the one before: with a GiST index on the spans of the rows too
+static int open_questions_both(const shape *s)
+{
+    (void)s;
+    return connect_postgres() || run("CREATE INDEX made_span ON made USING gist(span)") || limit_postgres();
+}
+
+// on the tables of the one before: with the GiST index alone, and no joins but by it
+static int open_questions_gist(const shape *s)
+{
+    (void)s;
+    return connect_postgres() || limit_postgres()
+        || run("DROP INDEX made_label; SET enable_hashjoin = off; SET enable_mergejoin = off; SET enable_material = off");
+}
+
+static int lay_questions(const question *list, size_t count)
+{
+    if (run("TRUNCATE question") || copying("COPY question FROM STDIN"))
+        return WRONG;
+    char line[96];
+    for (size_t q = 0; q < count; q++)
+        PQputCopyData(db, line, sprintf(line, "%zu\t%" PRIu64 "\t%" PRIu64 "\n", q, list[q].label, list[q].minute));
+    return copied() || run("VACUUM ANALYZE question");
+}
+
+static int questions_postgres(question *list, size_t count, uint64_t *read)
+{
+    *read = 0;
+    PGresult *r = PQexec(db, "SELECT q.place, count(m.label) FROM question q LEFT JOIN made m ON m.label = q.label AND m.span @> q.minute GROUP BY q.place");
+    int answer = status_of(r);
+    for (int k = 0; k < PQntuples(r) && !answer; k++) {
+        size_t q = strtoull(PQgetvalue(r, k, 0), 0, 10);
+        if (q < count)
+            list[q].answer = strtoull(PQgetvalue(r, k, 1), 0, 10);
+    }
+    if (!answer && (size_t)PQntuples(r) != count)
+        answer = WRONG;
+    PQclear(r);
+    return answer;
+}
+
 static fingerprint rows_postgres(void)
 {
     fingerprint f = {0, 0};
@@ -157,3 +232,6 @@ static void close_postgres(void) { PQfinish(db); }
 
 const peer postgres = {"PostgreSQL", open_postgres, join_postgres, insert_postgres, withdraw_postgres, check_postgres, rows_postgres, close_postgres};
 const peer postgres_gist = {"PostgreSQL by GiST", open_gist, join_postgres, insert_postgres, withdraw_postgres, check_postgres, rows_postgres, close_postgres};
+const asker asking_postgres_label = {"PostgreSQL by label", 1, open_questions, lay_questions, questions_postgres, close_postgres};
+const asker asking_postgres = {"PostgreSQL, both indexes", 1, open_questions_both, lay_questions, questions_postgres, close_postgres};
+const asker asking_postgres_gist = {"PostgreSQL by GiST", 1, open_questions_gist, lay_questions, questions_postgres, close_postgres};

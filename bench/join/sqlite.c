@@ -11,7 +11,7 @@ static double began;
 static int late(void *unused)
 {
     (void)unused;
-    return now_ms() - began > LIMIT_MS;
+    return now_ms() - began > limit_ms;
 }
 
 static int run(const char *sql)
@@ -107,6 +107,36 @@ static int check_sqlite(void)
     return none ? DONE : WRONG;
 }
 
+static sqlite3_stmt *count_rows;
+
+// A statement for each question: one over a table of the questions takes 3 per cent longer, and a join with it more. It is
+// prepared after the load, so that it is planned by what ANALYZE found.
+static int open_questions(const shape *s)
+{
+    if (open_sqlite(s))
+        return WRONG;
+    count_rows = prepared("SELECT count(*) FROM made WHERE label = ?1 AND first <= ?2 AND ?2 <= last");
+    return count_rows ? DONE : WRONG;
+}
+
+static int questions_sqlite(question *list, size_t count, uint64_t *read)
+{
+    int answer = DONE;
+    *read = 0;
+    began = now_ms();
+    for (size_t q = 0; q < count && !answer; q++) {
+        sqlite3_bind_int64(count_rows, 1, (sqlite3_int64)list[q].label);
+        sqlite3_bind_int64(count_rows, 2, (sqlite3_int64)list[q].minute);
+        int status = sqlite3_step(count_rows);
+        if (status == SQLITE_ROW)
+            list[q].answer = (uint64_t)sqlite3_column_int64(count_rows, 0);
+        else
+            answer = status == SQLITE_INTERRUPT ? TOO_LONG : WRONG;
+        sqlite3_reset(count_rows);
+    }
+    return answer;
+}
+
 static fingerprint rows_sqlite(void)
 {
     fingerprint f = {0, 0};
@@ -129,4 +159,11 @@ static void close_sqlite(void)
     sqlite3_close(db);
 }
 
+static void close_questions(void)
+{
+    sqlite3_finalize(count_rows);
+    close_sqlite();
+}
+
 const peer sqlite = {"SQLite", open_sqlite, join_sqlite, insert_sqlite, withdraw_sqlite, check_sqlite, rows_sqlite, close_sqlite};
+const asker asking_sqlite = {"SQLite", 0, open_questions, 0, questions_sqlite, close_questions};
