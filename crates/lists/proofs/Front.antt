@@ -31,6 +31,13 @@ module _ {A : Type 0} (f : A → A) where
   front-set zero (x ∷ xs) d l = refl
   front-set (suc i) (x ∷ xs) d l = ap (λ (ys : List A). f x ∷ ys) (front-set i xs d (le-of-suc-le-suc l))
 
+  -- and so it is where f leaves it as it was
+  pub front-same : (i : ℕ) (xs : List A) (d : A) → i < length xs → f (getD xs i d) ≡ getD xs i d
+      → front (suc i) xs ≡ front i xs
+  front-same i [] d l e = absurd (not-suc-le-zero l)
+  front-same zero (x ∷ xs) d l e = ap (λ (y : A). y ∷ xs) e
+  front-same (suc i) (x ∷ xs) d l e = ap (λ (ys : List A). f x ∷ ys) (front-same i xs d (le-of-suc-le-suc l) e)
+
   pub front-all : (xs : List A) → front (length xs) xs ≡ map f xs
   front-all [] = refl
   front-all (x ∷ xs) = ap (λ (ys : List A). f x ∷ ys) (front-all xs)

@@ -1,20 +1,22 @@
 -- The invariants of the loops over the questions in words: the first i were changed by f, which changes their answers
 -- alone; the window of those that are passed.
--- In order: how many questions there are; the start, the next question, one more, the end; the window.
+-- In order: how many questions there are; the start, the next question, one more, the end; a row with another label;
+-- the window.
 -- Assumes nothing.
 use mathlib.Core.List.{List, map}
 use mathlib.Core.Path.{_≡_, sym, ap, ap₂, _∙_}
 use Prim.Native.Nat.{ℕ, _+_, _*_, _/_, _≤_, _<_}
 use native.Mathlib.Numerals.{add-one}
 use native.Mathlib.Omega.{arith}
-use lib.ListN.{length, getD, set, drop, length-map, drop-of-length-le}
-use lib.Seq.{drop-cons}
+use lib.ListN.{length, getD, set, drop, length-map}
+use borrow.Author.Tests.{ne-eqb}
 use Rattle.lists.specs.Members.{gather, below}
 use Rattle.lists.proofs.Below.{length-below}
-use Rattle.lists.proofs.Front.{front, front-length, front-next, front-set, front-all}
+use Rattle.lists.proofs.Front.{front, front-length, front-next, front-set, front-same, front-all}
 use Rattle.interval.specs.declared.time.Interval.{Interval}
-use Rattle.question.specs.Question.{withAnswer}
-use Rattle.question.specs.Steps.{widenedBy, widenedAll, noWindow, windowOf}
+use Rattle.interval.specs.declared.tuple.Row.{Row}
+use Rattle.question.specs.Question.{rowMeets, withAnswer}
+use Rattle.question.specs.Steps.{withRow, widenedBy, widenedAll, noWindow, windowOf}
 use Rattle.question.specs.declared.Question.{Question}
 use Rattle.question.proofs.Windows.{window-first, window-next, window-last}
 use Rattle.question_words.specs.QuestionWords.{questionWidth, questionWords, questionAt, questionsIn}
@@ -83,6 +85,18 @@ module _ (f : Question → Question) (ws : List ℕ) where
           ∙ ap (gather questionWords) (front-set f i (questionsIn ws) d m)
           ∙ ap (λ (n : ℕ). gather questionWords (front f n (questionsIn ws))) (sym (add-one i))
 
+  -- or left as it is, where f does so
+  pub changed-same : (i : ℕ) {ws′ : List ℕ} → Changed f ws i ws′ → i < length ws / questionWidth
+      → f (questionAt ws′ i) ≡ questionAt ws′ i → Changed f ws (i + 1) ws′
+  changed-same i {ws′} s l e = record {
+    passed = omega arith;
+    words =
+        s .words
+        ∙ ap (gather questionWords) (sym (front-same f i (questionsIn ws) (questionAt ws′ i)
+        (omega (arith, questions-length ws)) (rw (changed-next i s l (questionAt ws′ i)) at e)))
+        ∙ ap (λ (n : ℕ). gather questionWords (front f n (questionsIn ws))) (sym (add-one i));
+  }
+
   pub changed-all : WholeQuestions ws → (i : ℕ) {ws′ : List ℕ} → Changed f ws i ws′ → length ws / questionWidth ≤ i
       → WordsBecame (map f (questionsIn ws)) ws ws′
   changed-all h i {ws′} s l =
@@ -92,6 +106,11 @@ module _ (f : Question → Question) (ws : List ℕ) where
             ∙ ap (gather questionWords) (front-all f (questionsIn ws));
         long = changed-length h i s;
       }
+
+-- a row with another label leaves a question as it is
+pub other-label : (r : Row) (q : Question) → (q .label ≡ r .label → ⊥) → withRow r q ≡ q
+unfolding rowMeets
+other-label r q ne = rw (ne-eqb (r .label) (q .label) (λ e. ne (sym e)))
 
 -- the window of the first i questions in the words: widened by those that are left, it is that of all
 abbrev pub Window : List ℕ → ℕ → Interval → Type 0

@@ -56,7 +56,7 @@ fn begin(ws: &mut [u64]) -> Interval
     window
 }
 
-// One row, read once, for the whole list of questions.
+// One row, read once, for the whole list of questions. Only a question with the row's label is written: few are.
 fn count_row(ws: &mut [u64], r: Row)
     requires { ⌜ WholeQuestions (now ws) ⌝ }
     requires { ⌜ roomFor 1 (questionsIn (now ws)) ≡ true ⌝ }
@@ -66,8 +66,11 @@ fn count_row(ws: &mut [u64], r: Row)
     let n = ws.len() / QUESTION_WIDTH;
     let mut i: usize = 0;
     while i < n {
-        let next = question::with_row(question_at(ws, i), r);
-        ws[i * QUESTION_WIDTH + 2] = next.answer;
+        let q = question_at(ws, i);
+        if q.label == r.label {
+            let next = question::with_row(q, r);
+            ws[i * QUESTION_WIDTH + 2] = next.answer;
+        }
         i += 1;
     }
 }

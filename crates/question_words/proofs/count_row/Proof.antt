@@ -1,6 +1,7 @@
 -- `question_words::count_row` meets its contract. The loop's invariant: the row was counted for the first i questions.
 -- The measure is what is left of the questions.
 -- Assumes nothing.
+use mathlib.Core.Logic.{⊎-elim}
 use mathlib.Core.Path.{refl, ap, _∙_}
 use Prim.Native.Nat.{_+_, _*_, _-_, _/_, _≤_, _<_}
 use native.Mathlib.Omega.{arith}
@@ -9,7 +10,8 @@ use Rattle.question.specs.Steps.{withRow}
 use Rattle.question_words.specs.QuestionWords.{questionWidth, questionsIn}
 use Rattle.question.proofs.Rooms.{room-at}
 use Rattle.question_words.proofs.Loops.{Changed, changed-none, changed-length, changed-inside}
-use Rattle.question_words.proofs.Loops.{changed-next, changed-more, changed-all, questions-length}
+use Rattle.question_words.proofs.Loops.{changed-next, changed-more, changed-same, changed-all, questions-length}
+use Rattle.question_words.proofs.Loops.{other-label}
 use Rattle.question_words.proofs.count_row.Statement.{statement}
 use Rattle.question_words.proofs.count_row.Tie as tie
 
@@ -27,49 +29,56 @@ question-at-requires c κs =
     let at = c .before .before in
     changed-inside _ _ (at .before .before .pre .0) (at .loop .i) (at .loop .inv) (c .before .loop-test .taken)
 
+-- in a turn: the question lies in the words, and is as it was
+asked : (c : tie.After-question-at Inv-loop μ-loop)
+    → (let at = c .before .before .before .loop in at .i * questionWidth + questionWidth ≤ length (at .ws))
+asked c =
+    let at = c .before .before .before in
+    changed-inside _ _ (at .before .before .pre .0) (at .loop .i) (at .loop .inv) (c .before .before .loop-test .taken)
+
 with-row-requires : tie.Need-with-row-requires Inv-loop μ-loop
 with-row-requires c κs =
-    let at = c .before .before .before in
+    let question = c .before .before .before in
+    let at = question .before .before .before in
     let start = at .before .before in
-    let taken = c .before .before .loop-test .taken in
-    let d = c .question-at .result in
+    let taken = question .before .before .loop-test .taken in
+    let d = question .question-at .result in
     let qs = questionsIn (start .args .ws .now) in
     let l : at .loop .i < length qs = omega (arith, questions-length (start .args .ws .now), taken) in
-    rw (c .question-at .ensures ∙ changed-next _ _ (at .loop .i) (at .loop .inv) taken d)
+    rw (question .question-at .ensures ∙ changed-next _ _ (at .loop .i) (at .loop .inv) taken d)
     (room-at qs (at .loop .i) d (start .pre .1) l)
 
--- the question that is written lies in the words
-inside : (c : tie.After-with-row Inv-loop μ-loop)
-    → (let at = c .before .before .before .before .loop in
-    at .i * questionWidth + questionWidth ≤ length (at .ws))
-inside c =
-    let at = c .before .before .before .before in
-    changed-inside _ _ (at .before .before .pre .0) (at .loop .i) (at .loop .inv)
-    (c .before .before .before .loop-test .taken)
-
 mul-ws : tie.Need-mul-ws Inv-loop μ-loop
-mul-ws c = omega (arith, inside c)
+mul-ws c = omega (arith, asked (c .before .before .before .before))
 
 add-ws : tie.Need-add-ws Inv-loop μ-loop
-add-ws c = omega (arith, inside c)
+add-ws c = omega (arith, asked (c .before .before .before .before))
 
 mul-ws-2 : tie.Need-mul-ws-2 Inv-loop μ-loop
-mul-ws-2 c = omega (arith, inside c)
+mul-ws-2 c = omega (arith, asked (c .before .before .before .before))
 
 slice-write-ws : tie.Need-slice-write-ws Inv-loop μ-loop
-slice-write-ws c = omega (arith, inside c)
+slice-write-ws c = omega (arith, asked (c .before .before .before .before))
 
 add-i : tie.Need-add-i Inv-loop μ-loop
-add-i c = omega (arith, inside c)
+add-i c = omega (arith, asked (c .before .before .before))
 
 loop-less : tie.Need-loop-less Inv-loop μ-loop
 loop-less c = omega arith
 
 loop-again : tie.Need-loop-again Inv-loop μ-loop
 loop-again c =
-    let at = c .before .before .before .before in
-    changed-more _ _ (λ q. refl) (at .loop .i) (at .loop .inv) (c .before .before .before .loop-test .taken) _
-    (c .with-row .ensures ∙ ap (withRow (at .before .before .args .r)) (c .before .question-at .ensures))
+    let question = c .before .before .before in
+    let at = question .before .before .before in
+    let taken = question .before .before .loop-test .taken in
+    let r = at .before .before .args .r in
+    let is = question .question-at .ensures in
+    ⊎-elim
+    (λ w. rw (w .2) (changed-more _ _ (λ q. refl) (at .loop .i) (at .loop .inv) taken _
+    (w .1 .ensures ∙ ap (withRow r) is)))
+    (λ w. rw (w .1) (changed-same _ _ (at .loop .i) (at .loop .inv) taken
+    (rw is at (other-label r (question .question-at .result) (w .0 .left)))))
+    (c .if1 .came)
 
 same-length : tie.Need-same-length Inv-loop μ-loop
 same-length c =
