@@ -1,7 +1,7 @@
-# Shows that the test programs join_cases and interval_cases and the tests of the program wall can fail. The sources of
-# a program and of the crates it uses are taken as Rust: the ghost lines and the promises go, declared types become
-# Copy, check, io, os and libc become a few lines over the C library. The unchanged build must pass: the test programs
-# write what their file stdout says, and wall is content for tests/wall_failures.py and some sessions of
+# Shows that the test programs join_cases, interval_cases and question_cases and the tests of the program wall can fail.
+# The sources of a program and of the crates it uses are taken as Rust: the ghost lines and the promises go, declared
+# types become Copy, check, io, os and libc become a few lines over the C library. The unchanged build must pass: the
+# test programs write what their file stdout says, and wall is content for tests/wall_failures.py and some sessions of
 # tests/wall_sessions.py. Then each wrong edit below is built by itself, and must not pass, stop with an error or not
 # end. Prints 'mutants: N caught, 0 missed'; exit 1 if one is missed, 2 if the test could not be made. Needs python3 and
 # rustc, works from any folder and leaves nothing behind. It says nothing of the proofs.
@@ -133,10 +133,10 @@ CALLS = [
     ),
     (
         'checks/lib.rt',
-        'let number = plan::plan_number(p);\n    if number != 0 {',
-        'let number = plan::plan_number(p);\n    if number == 18 && (!store::fits_tuples(p, outer)'
-        ' || !store::fits_tuples(p, inner) || !store::fits_rows(p, rows)) {\n        return 4;\n    }\n'
-        '    if number != 0 {',
+        'if number != 0 {\n        return number;\n    }\n    let first',
+        'if number == 18 && (!store::fits_tuples(p, outer) || !store::fits_tuples(p, inner)'
+        ' || !store::fits_rows(p, rows)) {\n        return 4;\n    }\n'
+        '    if number != 0 {\n        return number;\n    }\n    let first',
     ),
     (
         'requirements/lib.rt',
@@ -145,8 +145,8 @@ CALLS = [
     ),
     (
         'checks/lib.rt',
-        'let number = plan::plan_number(p);\n    if number != 0 {',
-        'let number = plan::plan_number(p);\n    if number != 0 && number != 18 {',
+        'if number != 0 {\n        return number;\n    }\n    let first',
+        'if number != 0 && number != 18 {\n        return number;\n    }\n    let first',
     ),
     # a stored row that is too short, and one that is just long enough
     ('interval/tuple.rt', 'crate::time::durable(minimum, row.valid)', 'true'),
@@ -654,7 +654,7 @@ CALLS = [
     ),
     ('checks/lib.rt', 'if second != 0 {', 'if false {'),
     ('checks/lib.rt', 'if inner_unsound != 0 {', 'if false {'),
-    ('checks/lib.rt', 'rows_unsound(p, rows)', '0'),
+    ('checks/lib.rt', 'return inner_unsound;\n    }\n    rows_unsound(p, rows)', 'return inner_unsound;\n    }\n    0'),
     (
         'plan/lib.rt',
         'if !covers(p.count, lasts) {',
@@ -692,6 +692,215 @@ EDGES = [
         'if row_number(row) != 0 {\n        return false;',
         'if row_number(row) != 0 && row_number(row) != 17 {\n        return false;',
     ),
+]
+
+# a screenful of questions: the code of one question and of the cursor, which both forms use
+QUESTIONS = [
+    # what a row adds to an answer
+    ('question/lib.rt', 'if r.label != q.label {', 'if false {'),
+    ('question/lib.rt', 'if r.label != q.label {', 'if r.label < q.label {'),
+    ('question/lib.rt', 'if q.minute.0 < r.valid.first.0 {', 'if q.minute.0 <= r.valid.first.0 {'),
+    ('question/lib.rt', 'if q.minute.0 < r.valid.first.0 {', 'if q.minute.0 + 1 < r.valid.first.0 {'),
+    ('question/lib.rt', 'if q.minute.0 < r.valid.first.0 {', 'if false {'),
+    ('question/lib.rt', 'if r.valid.last.0 < q.minute.0 {', 'if r.valid.last.0 <= q.minute.0 {'),
+    ('question/lib.rt', 'if r.valid.last.0 < q.minute.0 {', 'if r.valid.last.0 + 1 < q.minute.0 {'),
+    ('question/lib.rt', 'if r.valid.last.0 < q.minute.0 {', 'if false {'),
+    ('question/lib.rt', 'answer: q.answer + 1,', 'answer: 1,'),
+    ('question/lib.rt', 'answer: q.answer + 1,', 'answer: q.answer + r.inner,'),
+    # the old answer: it is added to, kept by an illegal question, kept by all
+    ('question/lib.rt', 'answer: 0,', 'answer: if q.answer == u64::MAX { 0 } else { q.answer },'),
+    ('question/lib.rt', 'answer: 0,', 'answer: if CALENDAR_END < q.minute.0 { q.answer } else { 0 },'),
+    ('question/lib.rt', 'answer: 0,', 'answer: if q.label < 1 || 217_180_147_158 < q.label { q.answer } else { 0 },'),
+    ('question/lib.rt', 'answer: 0,', 'answer: q.answer % 2,'),
+    # which minutes count for what is read, and which of them is the one to start at
+    ('question/lib.rt', 'if CALENDAR_END < q.minute.0 {', 'if CALENDAR_END <= q.minute.0 {'),
+    (
+        'question/lib.rt',
+        'if CALENDAR_END < q.minute.0 {',
+        'if CALENDAR_END < q.minute.0 || q.label < 1 || 217_180_147_158 < q.label {',
+    ),
+    ('question/lib.rt', 'time::earlier(window.first, q.minute)', 'time::later(window.first, q.minute)'),
+    (
+        'question/lib.rt',
+        'interval::time::earlier(window.first, q.minute)',
+        'if CALENDAR_END < window.first.0 { q.minute } else { interval::time::later(window.first, q.minute) }',
+    ),
+    (
+        'question/lib.rt',
+        'interval::time::earlier(window.first, q.minute)',
+        'if CALENDAR_END < window.first.0 { q.minute } else { window.first }',
+    ),
+    ('question/lib.rt', 'interval::time::earlier(window.first, q.minute)', 'q.minute'),
+    ('question/lib.rt', 'first: Chronon(CALENDAR_END + 1),', 'first: Chronon(CALENDAR_END),'),
+    ('question/lib.rt', 'first: Chronon(CALENDAR_END + 1),', 'first: Chronon(0),'),
+    ('question/lib.rt', 'plan::home(p, window.first)', 'plan::PartitionIndex(0)'),
+    ('question/lib.rt', 'plan::home(p, window.first)', 'plan::home(p, window.last)'),
+    ('question/lib.rt', 'plan::home(p, window.first)', 'plan::home(p, Chronon(window.first.0 + 1))'),
+    # a window that is too narrow
+    ('question/lib.rt', 'time::later(window.last, q.minute)', 'time::earlier(window.last, q.minute)'),
+    ('question/lib.rt', 'interval::time::later(window.last, q.minute)', 'q.minute'),
+    ('cursor/lib.rt', 'if window.last.0 < row.valid.first.0 {', 'if window.last.0 <= row.valid.first.0 {'),
+    ('cursor/lib.rt', 'if window.last.0 < row.valid.first.0 {', 'if window.last.0 < row.valid.last.0 {'),
+    ('cursor/lib.rt', 'window.first.0 <= row.valid.last.0', 'window.first.0 < row.valid.last.0'),
+    ('cursor/lib.rt', 'window.first.0 <= row.valid.last.0', 'window.first.0 <= row.valid.first.0'),
+    # which lanes and rows are read
+    ('question/lib.rt', 'count: p.count,', 'count: p.count - 1,'),
+    ('cursor/lib.rt', 'while j < scan.count {', 'while j + 1 < scan.count {'),
+    ('cursor/lib.rt', 'while j < scan.count {', 'while j <= scan.from.0 && j < scan.count {'),
+    ('cursor/lib.rt', 'j += 1;', 'j += 2;'),
+    ('cursor/lib.rt', '        row = 0;', '        row = 1;'),
+    ('cursor/lib.rt', '        row = 0;\n', ''),
+    ('cursor/lib.rt', 'let mut at = k;', 'let mut at = k + 1;'),
+    ('cursor/lib.rt', 'at += 1;', 'at += 2;'),
+    ('cursor/lib.rt', 'if (at as u64) < part::count(part) {', 'if (at as u64) + 1 < part::count(part) {'),
+    ('cursor/lib.rt', 'reach(rows, scan, scan.from, 0)', 'reach(rows, scan, scan.from, 1)'),
+    ('cursor/lib.rt', 'reach(rows, scan, scan.from, 0)', 'reach(rows, scan, PartitionIndex(scan.from.0 + 1), 0)'),
+    ('cursor/lib.rt', 'at.row + 1)', 'at.row + 2)'),
+    ('cursor/lib.rt', 'scan.room, at.partition), at.row)', 'scan.room, at.partition), 0)'),
+    # how many are said to be read
+    ('cursor/lib.rt', 'scan.room, scan.from, scan.count)', 'scan.room, PartitionIndex(0), scan.count)'),
+    ('cursor/lib.rt', 'scan.room, scan.from, scan.count)', 'scan.room, PartitionIndex(scan.from.0 + 1), scan.count)'),
+    ('cursor/lib.rt', 'scan.room, scan.from, scan.count)', 'scan.room, scan.from, scan.count - 1)'),
+    ('checks/lib.rt', 'number: 0,\n        changed,', 'number: 0,\n        changed: examined,'),
+    ('checks/lib.rt', 'changed: 0,\n        examined: 0,', 'changed: 0,\n        examined: number,'),
+    # the form in structs: its checks
+    ('checks/lib.rt', 'if long != 0 {', 'if false {'),
+    ('checks/lib.rt', 'return long;\n    }\n    rows_unsound(p, rows)', 'return long;\n    }\n    0'),
+    (
+        'checks/lib.rt',
+        'if number != 0 {\n        return number;\n    }\n    let long',
+        'if number != 0 && number != 18 {\n        return number;\n    }\n    let long',
+    ),
+    (
+        'checks/lib.rt',
+        'if number != 0 {\n        return number;\n    }\n    let long',
+        'if number == 18 && !store::fits_rows(p, rows.len()) {\n        return 4;\n    }\n'
+        '    if number != 0 {\n        return number;\n    }\n    let long',
+    ),
+    (
+        'questions/lib.rt',
+        'if number != 0 {\n        return',
+        'if number != 0 {\n        begin(qs);\n        return',
+    ),
+    # the form in structs: its lists
+    (
+        'questions/lib.rt',
+        'while i < qs.len() {\n        let q = qs[i];\n        window',
+        'while i + 1 < qs.len() {\n        let q = qs[i];\n        window',
+    ),
+    (
+        'questions/lib.rt',
+        'while i < qs.len() {\n        let q = qs[i];\n        let',
+        'while i + 1 < qs.len() {\n        let q = qs[i];\n        let',
+    ),
+    ('questions/lib.rt', 'window = question::widened(window, q);', ''),
+    ('questions/lib.rt', 'let next = question::cleared(q);\n        qs[i] = next;', ''),
+    ('questions/lib.rt', 'with_row(q, r);\n        qs[i] = next;', 'with_row(q, r);\n        qs[0] = next;'),
+    ('questions/lib.rt', 'while at.found {', 'if at.found {'),
+    (
+        'questions/lib.rt',
+        'while at.found {',
+        'if at.found {\n        at = cursor::next(rows, scan, at);\n    }\n    while at.found {',
+    ),
+    (
+        'questions/lib.rt',
+        'count_row(qs, r);',
+        'let part = store::partition(rows, scan.room, at.partition);\n'
+        '        if at.row == 0 || !interval::tuple::same_row(r, part::row_at(part, at.row - 1)) {\n'
+        '            count_row(qs, r);\n        }',
+    ),
+    # the form in structs: what it says
+    ('questions/lib.rt', 'cursor::stored(rows, scan)', 'cursor::stored(rows, scan) * qs.len() as u64'),
+    (
+        'questions/lib.rt',
+        'cursor::stored(rows, scan)',
+        'let mut read = 0;\n    let mut at = cursor::first(rows, scan);\n    while at.found {\n        read += 1;\n'
+        '        at = cursor::next(rows, scan, at);\n    }\n    read',
+    ),
+    ('questions/lib.rt', 'checks::accepted(0, read)', 'checks::accepted(read, 0)'),
+    # the form in words: its checks, and their order
+    ('question_words/lib.rt', 'if words % QUESTION_WIDTH == 0 { 0 } else { 4 }', '0'),
+    (
+        'question_words/lib.rt',
+        'if words % QUESTION_WIDTH == 0 { 0 } else { 4 }',
+        'if words % QUESTION_WIDTH < 2 { 0 } else { 4 }',
+    ),
+    (
+        'question_words/lib.rt',
+        'if words % QUESTION_WIDTH == 0 { 0 } else { 4 }',
+        'if words % QUESTION_WIDTH == 0 { 0 } else { 5 }',
+    ),
+    ('question_words/lib.rt', 'if long != 0 {', 'if false {'),
+    ('question_words/lib.rt', 'checks::rows_unsound(p, rows)', '0'),
+    (
+        'question_words/lib.rt',
+        'let number = plan::plan_number(p);',
+        'if whole_check(words) != 0 {\n        return 4;\n    }\n    let number = plan::plan_number(p);',
+    ),
+    (
+        'question_words/lib.rt',
+        'let number = plan::plan_number(p);',
+        'let number = plan::plan_number(p);\n    if number == 18 && whole_check(words) != 0 {\n'
+        '        return 4;\n    }',
+    ),
+    (
+        'question_words/lib.rt',
+        'let number = plan::plan_number(p);',
+        'let number = plan::plan_number(p);\n    if number == 18 && !store::fits_rows(p, rows.len()) {\n'
+        '        return 4;\n    }',
+    ),
+    (
+        'question_words/lib.rt',
+        'let whole = whole_check(words);',
+        'let unsound = checks::rows_unsound(p, rows);\n    if unsound != 0 {\n        return unsound;\n    }\n'
+        '    let whole = whole_check(words);',
+    ),
+    (
+        'question_words/lib.rt',
+        'if number != 0 {\n        return checks::refused',
+        'if number != 0 {\n        begin(ws);\n        return checks::refused',
+    ),
+    # the form in words: its lists
+    ('question_words/lib.rt', 'let at = i * QUESTION_WIDTH;', 'let at = i * 2;'),
+    (
+        'question_words/lib.rt',
+        'label: ws[at],\n        minute: Chronon(ws[at + 1]),',
+        'label: ws[at + 1],\n        minute: Chronon(ws[at]),',
+    ),
+    ('question_words/lib.rt', 'ws[i * QUESTION_WIDTH + 2] = next.answer;', 'ws[i * QUESTION_WIDTH + 1] = next.answer;'),
+    ('question_words/lib.rt', 'ws[i * QUESTION_WIDTH + 2] = next.answer;', 'ws[i + 2] = next.answer;'),
+    ('question_words/lib.rt', 'ws[i * QUESTION_WIDTH + 2] = question::cleared(q).answer;', ''),
+    (
+        'question_words/lib.rt',
+        'let n = ws.len() / QUESTION_WIDTH;\n    let mut window',
+        'let n = (ws.len() / QUESTION_WIDTH).saturating_sub(1);\n    let mut window',
+    ),
+    (
+        'question_words/lib.rt',
+        'let n = ws.len() / QUESTION_WIDTH;\n    let mut i',
+        'let n = (ws.len() / QUESTION_WIDTH).saturating_sub(1);\n    let mut i',
+    ),
+    ('question_words/lib.rt', 'window = question::widened(window, q);', ''),
+    ('question_words/lib.rt', 'while at.found {', 'if at.found {'),
+    (
+        'question_words/lib.rt',
+        'while at.found {',
+        'if at.found {\n        at = cursor::next(rows, scan, at);\n    }\n    while at.found {',
+    ),
+    (
+        'question_words/lib.rt',
+        'count_row(ws, r);',
+        'let part = store::partition(rows, scan.room, at.partition);\n'
+        '        if at.row == 0 || !interval::tuple::same_row(r, part::row_at(part, at.row - 1)) {\n'
+        '            count_row(ws, r);\n        }',
+    ),
+    # the form in words: what it says
+    (
+        'question_words/lib.rt',
+        'cursor::stored(rows, scan))',
+        'cursor::stored(rows, scan) * (ws.len() / QUESTION_WIDTH) as u64)',
+    ),
+    ('question_words/lib.rt', 'accepted(0, cursor::stored(rows, scan))', 'accepted(cursor::stored(rows, scan), 0)'),
 ]
 
 # the program wall: what it reads and writes, which no promise can say, and some of what it prints
@@ -908,6 +1117,9 @@ def writes(program, name='join_cases'):
 def writes_edges(program):
     return writes(program, 'interval_cases')
 
+def writes_answers(program):
+    return writes(program, 'question_cases')
+
 # Whether the tests of wall are content. A test that notices nothing runs to its end, so the one that is likelier to
 # notice an edit comes first: failures where wall reads and writes, sessions where what it prints is made.
 FAILURES_FIRST = (['wall_failures.py'], ['wall_sessions.py', str(SESSIONS)])
@@ -932,10 +1144,12 @@ def main():
         fail('there is no rustc')
     tried = [('join_cases', writes, edit) for edit in CALLS]
     tried += [('interval_cases', writes_edges, edit) for edit in EDGES]
+    tried += [('question_cases', writes_answers, edit) for edit in QUESTIONS]
     tried += [('wall', contents if edit[0].startswith('wall/') else prints, edit) for edit in WALL]
     with tempfile.TemporaryDirectory() as room:
         room = Path(room)
-        for program, passes in (('join_cases', writes), ('interval_cases', writes_edges), ('wall', contents)):
+        for program, passes in (('join_cases', writes), ('interval_cases', writes_edges),
+                                ('question_cases', writes_answers), ('wall', contents)):
             if not passes(build(room / program, program)):
                 fail(f'the unchanged sources of {program} do not pass')
         with ThreadPoolExecutor(os.cpu_count()) as pool:
