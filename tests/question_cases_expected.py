@@ -39,10 +39,10 @@ class Plan:
         return self.but(lasts=self.lasts[:i] + [minute] + self.lasts[i + 1:])
 
 def drawn_plan(d):
-    count, lasts, minute = 1 + d[0] % 4, [], 0
-    for i, w in enumerate(fill(d[1], 64)[0]):
-        lasts.append(END if i + 1 == count else minute + w % 16)
-        minute += w % 16 + 1
+    count, lasts = 1 + d[0] % 4, [d[1] % 16]
+    lasts.append(lasts[0] + 1 + d[17] % 16)
+    lasts.append(lasts[1] % 32 + 1 + d[18] % 16)
+    lasts = lasts[:count - 1] + [END] * (65 - count)
     return Plan(count, lasts, 1 + d[2] % 512, 1 + d[3] % 8, 1 + d[4] % 8 // 5)
 
 def bent_plan(p, kind, w):
@@ -226,7 +226,7 @@ def note_turns(p, words, questions, answer, answers):
         TURNS['the largest old answer'] += old == HUGE
 
 def one_list(seed, times):
-    d, state = fill(seed, 17)
+    d, state = fill(seed, 20)
     p = drawn_plan(d)
     lanes, state = drawn_lanes(p, state, 3 + d[13] % 22)
     words = as_words(p, lanes)
@@ -246,7 +246,7 @@ def one_list(seed, times):
     h = digest(h, [w for (label, minute, _), a in zip(questions, answers) for w in (label, minute, a)])
     h = digest(h, [0] * (WORDS - 3 * QUESTIONS))
     # as words
-    length = min(bent_length(3 * n, d[2] % 12), WORDS)
+    length = min(bent_length(3 * n, d[19] % 12), WORDS)
     whole = length % 3 == 0
     other, more = asked(q, words, questions[:length // 3], whole)
     left = [w for question in questions for w in question] + [0] * (WORDS - 3 * QUESTIONS)
@@ -268,9 +268,9 @@ def main():
     for seed in SEEDS:
         h, answer, other = one_list(seed, times)
         print(seed, h, answer[0], answer[2], other[0], other[2], sep=',')
-    for number in range(19):
-        print(number, times[0, number], times[1, number], sep=',')
     if sys.argv[1:] == ['--turns']:
+        for number in (0, 1, 2, 3, 4, 5, 18):
+            print(f'{times[0, number]:6} {times[1, number]:6} number {number}, of either form', file=sys.stderr)
         for turn, n in TURNS.items():
             print(f'{n:6} {turn}', file=sys.stderr)
     for number in (0, 1, 2, 3, 4, 5, 18):

@@ -1,7 +1,7 @@
 // Outside cases for the crates questions and question_words: a seeded list of questions on a small rows store, asked as
 // a slice of questions and as words. Each answer and every question or word left is taken into a digest, which
-// tests/question_cases_expected.py works out in another way. A line for each list: its seed, its digest, and the number
-// and the rows read of either form; then a line for each number from 0 to 18: how often either form answered it.
+// tests/question_cases_expected.py works out in another way, and which asserts that every number and the turns that
+// matter are met. A line for each list: its seed, its digest, and the number and the rows read of either form.
 //
 // All functions answer for any words: what would be too large is made small first (total), and a word past the end of a
 // slice is 0. So each is proved safe by little more than its loop's bound.
@@ -31,23 +31,6 @@ struct Case {
     words: u64,
 }
 
-// How often the one form and the other answered each number from 0 to 18.
-struct Tally {
-    one: [u64; 19],
-    other: [u64; 19],
-}
-
-// The tally with one more of a number of either form.
-fn counted(tally: Tally, a: u64, b: u64) -> Tally {
-    let mut one = tally.one;
-    let mut other = tally.other;
-    let i = (a % 19) as usize;
-    let j = (b % 19) as usize;
-    one[i] = one[i] % 1_000_000 + 1;
-    other[j] = other[j] % 1_000_000 + 1;
-    Tally { one, other }
-}
-
 // A length, or by a drawn number one less, or one or two more.
 fn bent(length: u64, w: u64) -> u64 {
     let n = length % 1_000;
@@ -57,7 +40,7 @@ fn bent(length: u64, w: u64) -> u64 {
 }
 
 // The case by the numbers drawn for it.
-fn case_by(d: [u64; 17], state: u64) -> Case {
+fn case_by(d: [u64; 20], state: u64) -> Case {
     let p = plans::drawn(d);
     let mut rows = [0u64; ROW_WORDS];
     let after = stores::fill(&mut rows, p, state, d[13] % 22 + 3);
@@ -70,7 +53,7 @@ fn case_by(d: [u64; 17], state: u64) -> Case {
         length: bent(stores::base(p, p.count), d[15] % 40),
         questions,
         asked,
-        words: bent(asked * 3, d[2] % 12),
+        words: bent(asked * 3, d[19] % 12),
     }
 }
 
@@ -91,7 +74,7 @@ fn line(seed: u64, digest: u64, one: Answer, other: Answer) {
 }
 
 // Asks a list in both forms.
-fn asked(seed: u64, c: Case, tally: Tally) -> Tally {
+fn asked(seed: u64, c: Case) {
     let p = c.plan;
     let rows = c.rows;
     let qs = c.questions;
@@ -105,39 +88,15 @@ fn asked(seed: u64, c: Case, tally: Tally) -> Tally {
     let words = w.words;
     let digest = digest::told(digest::told(seed, one, &left), other, &words);
     line(seed, digest, one, other);
-    counted(tally, one.number, other.number)
-}
-
-// The list of a seed.
-fn one_list(seed: u64, tally: Tally) -> Tally {
-    let mut d = [0u64; 17];
-    let state = draws::fill(seed, &mut d);
-    asked(seed, case_by(d, state), tally)
 }
 
 // The lists of the seeds from 1 to 700.
-fn all_lists() -> Tally {
-    let one = [0u64; 19];
-    let other = [0u64; 19];
-    let mut tally = Tally { one, other };
+fn main() {
     let mut seed: u64 = 1;
     while seed <= 700 {
-        tally = one_list(seed, tally);
+        let mut d = [0u64; 20];
+        let state = draws::fill(seed, &mut d);
+        asked(seed, case_by(d, state));
         seed += 1;
-    }
-    tally
-}
-
-// How often each number was answered.
-fn main() {
-    let tally = all_lists();
-    let one = tally.one;
-    let other = tally.other;
-    let mut i: usize = 0;
-    while i < 19 {
-        print(i as u64, b",");
-        print(one[i], b",");
-        print(other[i], b"\n");
-        i += 1;
     }
 }

@@ -1,5 +1,4 @@
 // Plans: drawn ones, legal and small, and what a disturbance makes of one.
-use crate::draws;
 use crate::total;
 use interval::time::Chronon;
 use plan::PLACES;
@@ -12,27 +11,17 @@ pub(crate) fn cut(p: Partitioning, i: u64) -> u64 {
     last.0
 }
 
-// Cuts that rise by 1 to 16 minutes; the last is the end of the calendar. The places past it are drawn on.
-fn cuts(state: u64, count: u64) -> [Chronon; PLACES] {
-    let mut lasts = [Chronon(0); PLACES];
-    let mut s = state;
-    let mut minute: u64 = 0;
-    let mut i: usize = 0;
-    while i < PLACES {
-        s = draws::next(s);
-        let last = minute % 1_000_000 + s / 65_536 % 16;
-        let end = i as u64 + 1 == count;
-        lasts[i] = Chronon(total::either(end, 99_999_999, last));
-        minute = last % 1_000_000 + 1;
-        i += 1;
-    }
-    lasts
-}
-
-// A plan with 1 to 4 lanes of 1 to 8 rows; its minimum is 1 or, less often, 2.
-pub(crate) fn drawn(d: [u64; 17]) -> Partitioning {
+// A plan with 1 to 4 lanes of 1 to 8 rows; its minimum is 1 or, less often, 2. All last minutes but those of the last
+// lane and of the places past it rise by 1 to 16 minutes.
+pub(crate) fn drawn(d: [u64; 20]) -> Partitioning {
     let count = d[0] % 4 + 1;
-    let lasts = cuts(d[1], count);
+    let first = d[1] % 16;
+    let second = first % 16 + d[17] % 16 + 1;
+    let third = second % 32 + d[18] % 16 + 1;
+    let mut lasts = [Chronon(99_999_999); PLACES];
+    lasts[0] = Chronon(total::either(1 < count, first, 99_999_999));
+    lasts[1] = Chronon(total::either(2 < count, second, 99_999_999));
+    lasts[2] = Chronon(total::either(3 < count, third, 99_999_999));
     Partitioning {
         count,
         lasts,
@@ -42,15 +31,15 @@ pub(crate) fn drawn(d: [u64; 17]) -> Partitioning {
     }
 }
 
-// How many lanes end before a minute: the lane that it is in, from 0.
+// How many lanes of a drawn plan end before a minute: the lane that it is in, from 0.
 pub(crate) fn lane_of(p: Partitioning, minute: u64) -> u64 {
-    let mut lane: u64 = 0;
-    let mut i: u64 = 0;
-    while i < p.count {
-        lane = total::either(cut(p, i) < minute, i + 1, lane);
-        i += 1;
-    }
-    lane
+    let lasts = p.lasts;
+    let first = lasts[0];
+    let second = lasts[1];
+    let third = lasts[2];
+    let low = total::either(first.0 < minute, 1, 0);
+    let middle = total::either(second.0 < minute, 2, low);
+    total::either(third.0 < minute, 3, middle)
 }
 
 // The last minutes disturbed by the kinds from 16 to 19: the last one a minute early or late, one of them equal to the

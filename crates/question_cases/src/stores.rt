@@ -52,23 +52,19 @@ fn drawn_row(p: Partitioning, d: [u64; 8]) -> [u64; 5] {
     ]
 }
 
-// Sets the words of a row.
-fn put_row(words: &mut [u64], at: u64, row: [u64; 5]) {
-    let mut i: usize = 0;
-    while i < 5 {
-        total::put(words, at % 1_000 + i as u64, row[i]);
-        i += 1;
-    }
-}
-
 // Adds the row in its lane, if that has place and the row lasts the minimum.
 fn add(words: &mut [u64], p: Partitioning, row: [u64; 5]) {
     let base = base(p, plans::lane_of(p, row[4]));
     let n = total::word(words, base);
     let long = row[3] % 1_000_000_000 + p.minimum % 10_000 <= row[4] % 1_000_000_000 + 1;
+    let at = base % 1_000 + n % 8 * 5;
     if long & (n < p.rows) {
-        put_row(words, base % 1_000 + n % 8 * 5 + 1, row);
         total::put(words, base, n % 8 + 1);
+        total::put(words, at + 1, row[0]);
+        total::put(words, at + 2, row[1]);
+        total::put(words, at + 3, row[2]);
+        total::put(words, at + 4, row[3]);
+        total::put(words, at + 5, row[4]);
     }
 }
 
@@ -87,7 +83,7 @@ pub(crate) fn fill(words: &mut [u64], p: Partitioning, state: u64, n: u64) -> u6
 }
 
 // Changes a word, if the numbers drawn say so: any word, or the count of a lane.
-pub(crate) fn meddle(words: &mut [u64], p: Partitioning, d: [u64; 17]) {
+pub(crate) fn meddle(words: &mut [u64], p: Partitioning, d: [u64; 20]) {
     let at = total::either(d[6] % 4 < 1, base(p, d[5] % 4), d[7] % 168);
     let w = total::word(words, at);
     let more = w % 1_000_000_000_000 + 1;

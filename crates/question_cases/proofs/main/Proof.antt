@@ -1,4 +1,4 @@
--- `question_cases::main` is safe and ends. `i` is at most 19; what is left to it falls.
+-- `question_cases::main` is safe and ends. `seed` is at most 701; what is left to it falls.
 -- Assumes nothing.
 use borrow.Author.Needs.{needs}
 use Prim.Native.Nat.{_≤_, _-_}
@@ -6,49 +6,28 @@ use Rattle.question_cases.proofs.main.Statement.{statement}
 use Rattle.question_cases.proofs.main.Tie as tie
 
 abbrev Inv-loop : tie.InvT-loop
-Inv-loop one other i₀ t5 t6 t7 i = i ≤ 19
+Inv-loop seed₀ seed = seed ≤ 701
 
 abbrev μ-loop : tie.MeasureT-loop
-μ-loop one other i₀ t5 t6 t7 i = 19 - i
-
-all-lists-requires : tie.Need-all-lists-requires Inv-loop μ-loop
-all-lists-requires c κs = search needs
+μ-loop seed₀ seed = 701 - seed
 
 loop-holds : tie.Need-loop-holds Inv-loop μ-loop
 loop-holds c = search needs
 
-slice-aggregate-print : tie.Need-slice-aggregate-print Inv-loop μ-loop
-slice-aggregate-print c = search needs
+slice-aggregate-fill : tie.Need-slice-aggregate-fill Inv-loop μ-loop
+slice-aggregate-fill c = search needs
 
-print-requires : tie.Need-print-requires Inv-loop μ-loop
-print-requires c κs = search needs
+fill-requires : tie.Need-fill-requires Inv-loop μ-loop
+fill-requires c κs = search needs
 
-mul-print : tie.Need-mul-print Inv-loop μ-loop
-mul-print c = search needs
+case-by-requires : tie.Need-case-by-requires Inv-loop μ-loop
+case-by-requires c κs = search needs
 
-array-read-print : tie.Need-array-read-print Inv-loop μ-loop
-array-read-print c = search needs
+asked-requires : tie.Need-asked-requires Inv-loop μ-loop
+asked-requires c κs = search needs
 
-slice-aggregate-print-2 : tie.Need-slice-aggregate-print-2 Inv-loop μ-loop
-slice-aggregate-print-2 c = search needs
-
-print-requires-2 : tie.Need-print-requires-2 Inv-loop μ-loop
-print-requires-2 c κs = search needs
-
-mul-print-2 : tie.Need-mul-print-2 Inv-loop μ-loop
-mul-print-2 c = search needs
-
-array-read-print-2 : tie.Need-array-read-print-2 Inv-loop μ-loop
-array-read-print-2 c = search needs
-
-slice-aggregate-print-3 : tie.Need-slice-aggregate-print-3 Inv-loop μ-loop
-slice-aggregate-print-3 c = search needs
-
-print-requires-3 : tie.Need-print-requires-3 Inv-loop μ-loop
-print-requires-3 c κs = search needs
-
-add-i : tie.Need-add-i Inv-loop μ-loop
-add-i c = search needs
+add-seed : tie.Need-add-seed Inv-loop μ-loop
+add-seed c = search needs
 
 loop-less : tie.Need-loop-less Inv-loop μ-loop
 loop-less c = search needs
@@ -65,19 +44,12 @@ main-spec =
     (tie.spec
     Inv-loop
     μ-loop
-    all-lists-requires
     loop-holds
-    slice-aggregate-print
-    print-requires
-    mul-print
-    array-read-print
-    slice-aggregate-print-2
-    print-requires-2
-    mul-print-2
-    array-read-print-2
-    slice-aggregate-print-3
-    print-requires-3
-    add-i
+    slice-aggregate-fill
+    fill-requires
+    case-by-requires
+    asked-requires
+    add-seed
     loop-less
     loop-again
     returns)
