@@ -1,5 +1,5 @@
--- `question_cases::asking::ask` is safe: a walk of its MIR, by hand. The array is taken apart into its questions, the first n of them are
--- lent to `questions::answer` as a slice, and all are put together again.
+-- `question_cases::asking::ask` is safe: a walk of its MIR, by hand. The array is taken apart into its questions, the
+-- first n of them are lent to `questions::answer` as a slice, and all are put together again.
 -- Assumes nothing.
 use mathlib.Core.Path.{_≡_, refl, sym, _∙_, ap, subst}
 use Prim.Native.Nat.{ℕ, _+_, _*_, _≤_, _<_, _^_, zero-le}

@@ -1,4 +1,5 @@
--- `question_cases::screens::as_words` is safe and ends. The words stay 26; `i` is at most 24, and what is left to it falls.
+-- `question_cases::screens::as_words` is safe and ends. The words stay 26; `i` is at most 24, and what is left to it
+-- falls.
 -- Assumes nothing.
 use borrow.Author.Needs.{needs}
 use mathlib.Core.Path.{_≡_}

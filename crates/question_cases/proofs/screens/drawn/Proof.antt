@@ -1,4 +1,5 @@
--- `question_cases::screens::drawn` is safe and ends. The questions stay 8; `i` is at most 8, and what is left to it falls.
+-- `question_cases::screens::drawn` is safe and ends. The questions stay 8; `i` is at most 8, and what is left to it
+-- falls.
 -- Assumes nothing.
 use borrow.Author.Needs.{needs}
 use mathlib.Core.Path.{_≡_}
