@@ -18,7 +18,7 @@ use Rattle.history.specs.Machine.{Told, Machine, machineAfter}
 use Rattle.history.specs.Runs.{Run}
 use Rattle.question.specs.Question.{answered}
 use Rattle.question.specs.declared.Question.{Question}
-use Rattle.questions.specs.Answered.{Answered}
+use Rattle.questions.specs.Answered.{QuestionsAnswered}
 use Rattle.question_words.specs.QuestionWords.{wholeCheck, questionWords, questionsIn, WordsAnswered}
 
 -- the machine's rows, "those that its drawings and spots make by the rule for rows", under the plan in force
@@ -27,7 +27,7 @@ machineRows p m = joinOf (p .minimum) (m .outer) (m .inner)
 
 -- asked of a rows store: the questions of a slice, and those of a host's words, where these are whole questions
 pub record AnswersFrom (p : Partitioning) (rows : List ℕ) (rs : List Row) : Type 0 where
-  pub questions : (qs qs′ : List Question) (a : Answer) → Answered p rows qs qs′ a
+  pub questions : (qs qs′ : List Question) (a : Answer) → QuestionsAnswered p rows qs qs′ a
       → (a .number ≡ 0) × (qs′ ≡ map (answered rs) qs)
   pub words : (ws ws′ : List ℕ) (a : Answer) → WordsAnswered p rows ws ws′ a → wholeCheck (length ws) ≡ 0
       → (a .number ≡ 0) × (ws′ ≡ gather questionWords (map (answered rs) (questionsIn ws)))

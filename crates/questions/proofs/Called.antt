@@ -10,11 +10,11 @@ use Rattle.checks.specs.Stores.{rowsNumber, Says, Counts}
 use Rattle.checks.specs.declared.Answer.{Answer}
 use Rattle.question.specs.Question.{answered, rowsRead}
 use Rattle.question.specs.declared.Question.{Question}
-use Rattle.questions.specs.Answered.{Answered}
+use Rattle.questions.specs.Answered.{QuestionsAnswered}
 
 -- a refusal: no question changed
 pub refusal : (p : Partitioning) (rows : List ℕ) (qs : List Question) (a : Answer) (m : ℕ)
-    → suc m ≡ rowsNumber p rows → Says a (suc m) → Answered p rows qs qs a
+    → suc m ≡ rowsNumber p rows → Says a (suc m) → QuestionsAnswered p rows qs qs a
 refusal p rows qs a m e h = record {
   number = h .0 ∙ e;
   changed = h .1 .0;
@@ -25,7 +25,7 @@ refusal p rows qs a m e h = record {
 -- no refusal: the questions are answered
 pub acceptance : (p : Partitioning) (rows : List ℕ) (qs zs : List Question) (a : Answer) (n : ℕ)
     → rowsNumber p rows ≡ 0 → zs ≡ map (answered (storedRows p rows)) qs → n ≡ rowsRead p rows qs → Counts a 0 n
-    → Answered p rows qs zs a
+    → QuestionsAnswered p rows qs zs a
 acceptance p rows qs zs a n e e₁ e₂ h = record {
   number = h .0 ∙ sym e;
   changed = h .1 .0;

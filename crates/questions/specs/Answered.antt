@@ -12,7 +12,7 @@ use Rattle.question.specs.declared.Question.{Question}
 
 -- the questions qs became qs′. "Refusals are 1 to 5 .. and leave all answers unchanged." The second count, `examined`,
 -- is the rows read; the first is 0 (document 01: "0 where none is named")
-pub record Answered (p : Partitioning) (rows : List ℕ) (qs qs′ : List Question) (a : Answer) : Type 0 where
+pub record QuestionsAnswered (p : Partitioning) (rows : List ℕ) (qs qs′ : List Question) (a : Answer) : Type 0 where
   pub number : a .number ≡ rowsNumber p rows
   pub changed : a .changed ≡ 0
   pub refused : (a .number ≡ 0 → ⊥) → (qs′ ≡ qs) × (a .examined ≡ 0)

@@ -18,7 +18,7 @@ ghost use Rattle.checks.specs.Stores.{rowsNumber};
 ghost use Rattle.cursor.specs.Cursor.{chosen, Scannable};
 ghost use Rattle.question.specs.Question.{withAnswer, answered, rowsRead};
 ghost use Rattle.question.specs.Steps.{roomFor, withRow, afterRows, windowOf};
-ghost use Rattle.questions.specs.Answered.{Answered};
+ghost use Rattle.questions.specs.Answered.{QuestionsAnswered};
 use checks::Answer;
 use cursor::Scan;
 use interval::time::Interval;
@@ -83,7 +83,7 @@ fn answer_sound(p: Partitioning, rows: &[u64], qs: &mut [Question]) -> u64
 
 // The answers to a list of questions: the call.
 pub fn answer(p: Partitioning, rows: &[u64], qs: &mut [Question]) -> Answer
-    ensures { λ a. ⌜ Answered p (now (rows .entry)) (now (qs .entry)) (now (qs .exit)) a ⌝ }
+    ensures { λ a. ⌜ QuestionsAnswered p (now (rows .entry)) (now (qs .entry)) (now (qs .exit)) a ⌝ }
 {
     let number = checks::rows_number(p, rows);
     if number != 0 {

@@ -24,7 +24,8 @@ loop-holds c =
 
 row-at-requires : tie.Need-row-at-requires Inv-loop μ-loop
 row-at-requires c κs =
-    (c .before .before .before .before .before .pre .1 .0, (c .before .loop .inv .counting .stands, c .loop-test .taken))
+    let stands = c .before .loop .inv .counting .stands in
+    (c .before .before .before .before .before .pre .1 .0, (stands, c .loop-test .taken))
 
 count-row-requires : tie.Need-count-row-requires Inv-loop μ-loop
 count-row-requires c κs =
@@ -35,7 +36,8 @@ count-row-requires c κs =
 next-requires : tie.Need-next-requires Inv-loop μ-loop
 next-requires c κs =
     let turn = c .before .before .before .before .before in
-    (turn .before .before .before .before .before .pre .1 .0, (turn .before .loop .inv .counting .stands, turn .loop-test .taken))
+    let stands = turn .before .loop .inv .counting .stands in
+    (turn .before .before .before .before .before .pre .1 .0, (stands, turn .loop-test .taken))
 
 loop-less : tie.Need-loop-less Inv-loop μ-loop
 loop-less c =

@@ -73,7 +73,7 @@ use Rattle.checks.proofs.accepted.Met as accepted-thm
 use Rattle.question.specs.Question.{answered, rowsRead}
 use Rattle.question.specs.declared.Question.{Question}
 use Rattle.question.proofs.Question as Q
-use Rattle.questions.specs.Answered.{Answered}
+use Rattle.questions.specs.Answered.{QuestionsAnswered}
 use Rattle.questions.proofs.Again.{LentAgain, lends-again, comes-back}
 use Rattle.questions.proofs.CheckCalls.{Number, Refused, Accepted, number-of, refused-of, accepted-of}
 use Rattle.questions.proofs.CheckCalls.{to-number, to-refused, to-accepted}
@@ -164,7 +164,7 @@ module _ {M : Type 1} (𝓤 : URA M) (H : Heap 𝓤) (A : Atoms 𝓤) (W : Given
   abbrev Asks : List Question → Fml
   Asks l = MutSlice (named 1) κ′ Q.the-row .own (x γ l) (sv ∷ [])
 
-  exits : (r : Answer) (w : Val) → Is R.the-row r (w ∷ []) → (zs : List Question) → Answered p (s .now) xs zs r
+  exits : (r : Answer) (w : Val) → Is R.the-row r (w ∷ []) → (zs : List Question) → QuestionsAnswered p (s .now) xs zs r
       → length zs ≡ length xs
       → ent 𝓤 (⋆ 𝓤 H A (‵ Own ∷ ‵ (flft κ q) ∷ ‵ (Asks zs) ∷ ‵ (flft κ′ q′) ∷ [])) (Post w)
   exits r w isr zs e l =

@@ -2,7 +2,7 @@
 -- first n of them are lent to `questions::answer` as a slice, and all are put together again.
 -- Assumes nothing.
 use mathlib.Core.Path.{_≡_, refl, sym, _∙_, ap, subst}
-use Prim.Native.Nat.{ℕ, _+_, _*_, _≤_, _<_, _^_, zero-le}
+use Prim.Native.Nat.{ℕ, _+_, _≤_, _<_, _^_, zero-le}
 use mathlib.Core.List.{[], _∷_, List, map, _++_}
 use lib.ListN.{length, take, drop, length-map, length-take, length-append, take-append-drop}
 use native.Mathlib.Nat.{min-eq-left, sub-zero}
@@ -60,7 +60,7 @@ use Rattle.checks.proofs.Answer.Laws as R′
 use Rattle.question.specs.declared.Question.{Question}
 use Rattle.question.proofs.Question as Q
 use Rattle.question.proofs.Question.Laws as Q′
-use Rattle.questions.specs.Answered.{Answered}
+use Rattle.questions.specs.Answered.{QuestionsAnswered}
 use Rattle.questions.proofs.answer as answer
 use Rattle.questions.proofs.answer.Symbol as answer-def
 use Rattle.questions.proofs.answer.Symbol.{name as #questions·answer}
@@ -370,9 +370,9 @@ module _ {M : Type 1} (𝓤 : URA M) (H : Heap 𝓤) (A : Atoms 𝓤) (W : Given
         (p, (s, (x l₅ δ front, tt))) tt r)))) (id⊢ 𝓤 _) $ await ! tt $ pick ! (λ r.
         split ! $ move ! (1 ∷ []) $
         use1 W (some (λ (zs : Unit {0} × (Unit {0} × (List Question × Unit {0}))). ‵ (lasts answer.ended
-        (κ, (ν ∷ [], tt)) (p, (s, (x l₅ δ front, tt))) zs) ⊛ raw (fact 𝓤 (Answered p (s .now) front (zs .1 .1 .0) r))))
+        (κ, (ν ∷ [], tt)) (p, (s, (x l₅ δ front, tt))) zs) ⊛ raw (fact 𝓤 (QuestionsAnswered p (s .now) front (zs .1 .1 .0) r))))
         (id⊢ 𝓤 _) $ pick ! (λ zs.
-        split ! $ move ! (1 ∷ []) $ heard ! (Answered p (s .now) front (zs .1 .1 .0) r) (λ _.
+        split ! $ move ! (1 ∷ []) $ heard ! (QuestionsAnswered p (s .now) front (zs .1 .1 .0) r) (λ _.
         fsplit ! $ toss ! $ fsplit ! $ toss ! $ fsplit ! $ fsplit ! $ move ! (1 ∷ []) $ feqL ! (λ l.
         -- [the last list; …; the tokens and the result; the words; the lender's part; the other questions; _12; …]
         move ! (2 ∷ []) $ split ! $ move ! (1 ∷ []) $
