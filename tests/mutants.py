@@ -748,15 +748,18 @@ QUESTIONS = [
     ('cursor/lib.rt', 'while j < scan.count {', 'while j + 1 < scan.count {'),
     ('cursor/lib.rt', 'while j < scan.count {', 'while j <= scan.from.0 && j < scan.count {'),
     ('cursor/lib.rt', 'j += 1;', 'j += 2;'),
-    ('cursor/lib.rt', '        row = 0;', '        row = 1;'),
-    ('cursor/lib.rt', '        row = 0;\n', ''),
-    ('cursor/lib.rt', 'let mut at = k;', 'let mut at = k + 1;'),
-    ('cursor/lib.rt', 'at += 1;', 'at += 2;'),
-    ('cursor/lib.rt', 'if (at as u64) < part::count(part) {', 'if (at as u64) + 1 < part::count(part) {'),
+    ('cursor/lib.rt', '        place = 0;', '        place = 1;'),
+    ('cursor/lib.rt', '        place = 0;\n', ''),
+    ('cursor/lib.rt', 'as usize;\n    let mut place = k;', 'as usize;\n    let mut place = k + 1;'),
+    ('cursor/lib.rt', 'place += 1;', 'place += 2;'),
+    ('cursor/lib.rt', 'while place < n {', 'while place + 1 < n {'),
+    # which row is handed out, and from where the next one is sought
+    ('cursor/lib.rt', 'part::row_at(part, place)', 'part::row_at(part, k)'),
+    ('cursor/lib.rt', '                place,\n', '                place: k,\n'),
+    ('cursor/lib.rt', '                partition: i,\n', '                partition: PartitionIndex(i.0 + 1),\n'),
     ('cursor/lib.rt', 'reach(rows, scan, scan.from, 0)', 'reach(rows, scan, scan.from, 1)'),
     ('cursor/lib.rt', 'reach(rows, scan, scan.from, 0)', 'reach(rows, scan, PartitionIndex(scan.from.0 + 1), 0)'),
-    ('cursor/lib.rt', 'at.row + 1)', 'at.row + 2)'),
-    ('cursor/lib.rt', 'scan.room, at.partition), at.row)', 'scan.room, at.partition), 0)'),
+    ('cursor/lib.rt', 'at.place + 1)', 'at.place + 2)'),
     # how many are said to be read
     ('cursor/lib.rt', 'scan.room, scan.from, scan.count)', 'scan.room, PartitionIndex(0), scan.count)'),
     ('cursor/lib.rt', 'scan.room, scan.from, scan.count)', 'scan.room, PartitionIndex(scan.from.0 + 1), scan.count)'),
@@ -806,7 +809,7 @@ QUESTIONS = [
         'questions/lib.rt',
         'count_row(qs, r);',
         'let part = store::partition(rows, scan.room, at.partition);\n'
-        '        if at.row == 0 || !interval::tuple::same_row(r, part::row_at(part, at.row - 1)) {\n'
+        '        if at.place == 0 || !interval::tuple::same_row(r, part::row_at(part, at.place - 1)) {\n'
         '            count_row(qs, r);\n        }',
     ),
     # the form in structs: what it says
@@ -891,7 +894,7 @@ QUESTIONS = [
         'question_words/lib.rt',
         'count_row(ws, r);',
         'let part = store::partition(rows, scan.room, at.partition);\n'
-        '        if at.row == 0 || !interval::tuple::same_row(r, part::row_at(part, at.row - 1)) {\n'
+        '        if at.place == 0 || !interval::tuple::same_row(r, part::row_at(part, at.place - 1)) {\n'
         '            count_row(ws, r);\n        }',
     ),
     # the form in words: what it says

@@ -1,82 +1,45 @@
 -- Laws of a cursor over the rows store (specs/Cursor).
--- In order: the first member of a list that passes a test, and what is kept from there on; the rows of the partitions
--- from one on: the first partition's, none, how many; `Looked`, the loop of `place_from`; the partitions of a store
--- that can be scanned; what is left from a row on; `Sought`, the loop of `reach`, and where it ends; one row further.
+-- In order: the members kept of a list from a place on; the rows of the partitions from one on: the first partition's,
+-- none, how many; `Looked`, the loop of `seek`, and where it ends; the partitions of a store that can be scanned; what
+-- is left from a row on; `Reaching`, the loop of `reach`, and where it ends; one row further.
 -- Assumes nothing.
 use mathlib.Core.Bool.{Bool, true, false, true≢false}
 use mathlib.Core.List.{List, [], _∷_, _++_}
 use mathlib.Core.Path.{_≡_, refl, sym, ap, _∙_}
-use Prim.Native.Nat.{ℕ, zero, suc, _+_, _-_, _*_, _≤_, _<_}
-use native.Mathlib.Nat.{le-of-suc-le-suc, not-suc-le-zero}
+use Prim.Native.Nat.{ℕ, suc, _+_, _-_, _*_, _≤_, _<_}
 use native.Mathlib.Numerals.{add-one}
 use native.Mathlib.Omega.{arith}
-use lib.ListN.{length, getD, drop, length-drop, drop-of-length-le}
-use lib.Seq.{drop-cons, drop-drop, drop-nil, drop-append-le, getD-drop}
-use Rattle.lists.specs.Choice.{pick}
-use Rattle.lists.specs.Members.{keep, total, gather, upFrom, placeOf}
+use lib.ListN.{length, getD, drop, drop-of-length-le}
+use lib.Seq.{drop-cons, drop-nil, drop-append-le}
+use Rattle.lists.specs.Members.{keep, total, upFrom}
 use Rattle.lists.proofs.Members.{keep-append}
 use Rattle.lists.proofs.Tally.{total-cong}
 use Rattle.lists.proofs.Gather.{length-gather}
 use Rattle.interval.specs.Tuple.{tupleWidth, rowWidth}
+use Rattle.interval.specs.declared.time.Interval.{Interval}
 use Rattle.interval.specs.declared.tuple.Row.{Row}
 use Rattle.part.specs.Part.{roomOf, counted, rowsIn, rowAt}
 use Rattle.part.proofs.Parts.{length-rows, row-in}
 use Rattle.store.specs.Store.{partitionAt}
 use Rattle.rows.specs.Partners.{Roomy}
 use Rattle.rows.proofs.Counting.{roomy-inside, roomy-fits}
-use Rattle.cursor.specs.Cursor.{touching, rowsFrom, scannedFrom, Scannable, current, left}
-use Rattle.cursor.specs.Cursor.{Stands, Reached, Advanced}
+use Rattle.cursor.specs.Cursor.{touching, rowsFrom, scannedFrom, Scannable, left}
+use Rattle.cursor.specs.Cursor.{Stands, Sought, Reached, Advanced}
 use Rattle.cursor.specs.declared.Scan.{Scan}
 use Rattle.cursor.specs.declared.Cursor.{Cursor}
 
--- ---- the first member of a list that passes a test
+-- ---- the members kept, of a list from place k on: the next one passes, it fails, none is left
 
-module _ {A : Type 0} (p : A → Bool) where
-  -- its place is in the list or its end, and the member there passes
-  pub place-most : (xs : List A) → placeOf p xs ≤ length xs
-  place-most [] = omega arith
-  place-most (x ∷ xs) = go (p x) (place-most xs)
-    where
-      go : (b : Bool) → placeOf p xs ≤ length xs → pick b 0 (suc (placeOf p xs)) ≤ suc (length xs)
-      go true h = omega arith
-      go false h = omega arith
+module _ {A : Type 0} (p : A → Bool) (xs : List A) (k : ℕ) where
+  keep-first : (x : A) → k < length xs → getD xs k x ≡ x → p x ≡ true
+      → keep p (drop k xs) ≡ x ∷ keep p (drop (k + 1) xs)
+  keep-first x h at e = rw (add-one k, drop-cons xs k x, at, e)
 
-  pub place-passes : (xs : List A) (d : A) → placeOf p xs < length xs → p (getD xs (placeOf p xs) d) ≡ true
-  place-passes [] d l = absurd (not-suc-le-zero l)
-  place-passes (x ∷ xs) d l = go (p x) refl l (place-passes xs d)
-    where
-      go : (b : Bool) → p x ≡ b → pick b 0 (suc (placeOf p xs)) < suc (length xs)
-          → (placeOf p xs < length xs → p (getD xs (placeOf p xs) d) ≡ true)
-          → p (getD (x ∷ xs) (pick b 0 (suc (placeOf p xs))) d) ≡ true
-      go true e l h = e
-      go false e l h = h (le-of-suc-le-suc l)
+  keep-next : (x : A) → k < length xs → getD xs k x ≡ x → p x ≡ false → keep p (drop k xs) ≡ keep p (drop (k + 1) xs)
+  keep-next x h at e = rw (add-one k, drop-cons xs k x, at, e)
 
-  -- none before it is kept
-  pub keep-place : (xs : List A) → keep p (drop (placeOf p xs) xs) ≡ keep p xs
-  keep-place [] = refl
-  keep-place (x ∷ xs) = go (p x) refl (keep-place xs)
-    where
-      go : (b : Bool) → p x ≡ b → keep p (drop (placeOf p xs) xs) ≡ keep p xs
-          → keep p (drop (pick b 0 (suc (placeOf p xs))) (x ∷ xs)) ≡ pick b (x ∷ keep p xs) (keep p xs)
-      go true e h = rw e
-      go false e h = h
-
-  -- of what a loop that goes up has still to see: nothing left, the next member passes, it fails
-  pub place-end : (xs : List A) (i : ℕ) → length xs ≤ i → placeOf p (drop i xs) ≡ 0
-  place-end xs i h = rw drop-of-length-le
-
-  pub place-stop : (xs : List A) (i : ℕ) (d : A) → i < length xs → p (getD xs i d) ≡ true → placeOf p (drop i xs) ≡ 0
-  place-stop xs i d h e = rw (drop-cons xs i d, e)
-
-  pub place-next : (xs : List A) (i : ℕ) (d : A) → i < length xs → p (getD xs i d) ≡ false
-      → placeOf p (drop i xs) ≡ placeOf p (drop (i + 1) xs) + 1
-  place-next xs i d h e = rw (add-one i, drop-cons xs i d, e) (sym (add-one (placeOf p (drop (suc i) xs))))
-
--- ---- the members kept, of a list from place k on: the next one passes
-
-keep-first : {A : Type 0} (p : A → Bool) (xs : List A) (k : ℕ) (x : A) → k < length xs → getD xs k x ≡ x → p x ≡ true
-    → keep p (drop k xs) ≡ x ∷ keep p (drop (k + 1) xs)
-keep-first p xs k x h at e = rw (add-one k, drop-cons xs k x, at, e)
+  keep-end : length xs ≤ k → keep p (drop k xs) ≡ []
+  keep-end h = rw (drop-of-length-le xs h)
 
 -- ---- the rows of the m partitions from i on
 
@@ -100,38 +63,50 @@ module _ (room : ℕ) (ws : List ℕ) where
       sym (length-gather (λ j. rowsIn (partitionAt room ws j)) (upFrom i m)
       ∙ total-cong _ _ (upFrom i m) (λ j. length-rows (partitionAt room ws j)))
 
--- ---- a partition's rows from place k on: none before place i passes the test
+-- ---- the loop of `seek`, which started at row k of a partition: at row `place` as much is kept
 
-pub record Looked (p : Row → Bool) (part : List ℕ) (k i : ℕ) : Type 0 where
-  pub within : i ≤ counted part
-  pub rest : i + placeOf p (drop i (rowsIn part)) ≡ k + placeOf p (drop k (rowsIn part))
+pub record Looked (window : Interval) (part : List ℕ) (k place : ℕ) : Type 0 where
+  pub within : place ≤ counted part
+  pub rest : keep (touching window) (drop place (rowsIn part)) ≡ keep (touching window) (drop k (rowsIn part))
 
-module _ (p : Row → Bool) (part : List ℕ) (k : ℕ) where
-  pub looked-none : k ≤ counted part → Looked p part k k
+module _ (window : Interval) (part : List ℕ) (k : ℕ) where
+  pub looked-none : k ≤ counted part → Looked window part k k
   looked-none h = record { within = h; rest = refl }
 
-  -- row i fails, so it is passed
-  pub looked-more : (i : ℕ) → i < counted part → p (rowAt part i) ≡ false → Looked p part k i → Looked p part k (i + 1)
-  looked-more i h e s = record {
+  -- this row does not touch the window, so it is passed
+  pub looked-more : (place : ℕ) → place < counted part → touching window (rowAt part place) ≡ false
+      → Looked window part k place → Looked window part k (place + 1)
+  looked-more place h e q = record {
     within = omega arith;
-    rest = omega (arith, s .rest, place-next p (rowsIn part) i (rowAt part i) l (rw (row-in i part _ h) e));
+    rest = sym (keep-next (touching window) (rowsIn part) place (rowAt part place) (rw (length-rows part) h)
+        (row-in place part _ h) e)
+        ∙ q .rest;
   }
-    where
-      l : i < length (rowsIn part)
-      l = rw (length-rows part) h
 
-  -- row i passes, so this is the place
-  pub looked-here : (i : ℕ) → i < counted part → p (rowAt part i) ≡ true → Looked p part k i
-      → i ≡ k + placeOf p (drop k (rowsIn part))
-  looked-here i h e s =
-      omega (arith, s .rest, place-stop p (rowsIn part) i (rowAt part i) l (rw (row-in i part _ h) e))
-    where
-      l : i < length (rowsIn part)
-      l = rw (length-rows part) h
+  -- it does, so it is the one
+  pub looked-here : (place : ℕ) → place < counted part → touching window (rowAt part place) ≡ true
+      → Looked window part k place → (i : ℕ) (c : Cursor) → c .partition .0 ≡ i → c .found ≡ true → c .place ≡ place
+      → c .row ≡ rowAt part place → Sought window part i k c
+  looked-here place h t q i c e f g r = record {
+    partition = e;
+    place = λ _. rw g h;
+    row = λ _. rw g r;
+    touched = λ _. rw r t;
+    rest = λ _. rw g (q .rest);
+    none = λ n. absurd (true≢false (sym f ∙ n));
+  }
 
   -- no row is left
-  pub looked-all : (i : ℕ) → counted part ≤ i → Looked p part k i → i ≡ k + placeOf p (drop k (rowsIn part))
-  looked-all i h s = omega (arith, s .rest, place-end p (rowsIn part) i (rw (length-rows part) h))
+  pub looked-all : (place : ℕ) → counted part ≤ place → Looked window part k place → (i : ℕ) (c : Cursor)
+      → c .partition .0 ≡ i → c .found ≡ false → Sought window part i k c
+  looked-all place h q i c e f = record {
+    partition = e;
+    place = λ y. absurd (true≢false (sym y ∙ f));
+    row = λ y. absurd (true≢false (sym y ∙ f));
+    touched = λ y. absurd (true≢false (sym y ∙ f));
+    rest = λ y. absurd (true≢false (sym y ∙ f));
+    none = λ _. sym (q .rest) ∙ keep-end (touching window) (rowsIn part) place (rw (length-rows part) h);
+  }
 
 -- ---- the partitions of a store that can be scanned
 
@@ -196,137 +171,80 @@ module _ (s : Scan) (ws : List ℕ) where
       (row-in k (part j) (rowAt (part j) k) l) e)
       ∙ ap (λ (rs : List Row). rowAt (part j) k ∷ rs) (sym (kept-next j (k + 1) h (omega arith)))
 
--- ---- the loop of `reach`, which started at row k of partition i: at row `row` of partition j as much is left
+-- ---- the loop of `reach`, which started at row k of partition i: at row `place` of partition j as much is left
 
-pub record Sought (s : Scan) (ws : List ℕ) (i k j row : ℕ) : Type 0 where
+pub record Reaching (s : Scan) (ws : List ℕ) (i k j place : ℕ) : Type 0 where
   pub within : j ≤ s .count
-  pub here : row ≤ counted (partitionAt (s .room) ws j)
-  pub rest : kept s ws j row ≡ kept s ws i k
-
--- the place that `place_from` gives, from row `row` on of a partition
-abbrev pub placeFrom : Scan → List ℕ → ℕ → ℕ
-placeFrom s part row = row + placeOf (touching (s .window)) (drop row (rowsIn part))
-
--- a cursor at a row
-abbrev pub cursorAt : ℕ → ℕ → Cursor
-cursorAt j row = record { found = true; partition = record { 0 = j }; row = row }
+  pub here : place ≤ counted (partitionAt (s .room) ws j)
+  pub rest : kept s ws j place ≡ kept s ws i k
 
 module _ (s : Scan) (ws : List ℕ) (i k : ℕ) where
-  pub sought-none : i ≤ s .count → k ≤ counted (partitionAt (s .room) ws i) → Sought s ws i k i k
-  sought-none h l = record { within = h; here = l; rest = refl }
+  pub reaching-none : i ≤ s .count → k ≤ counted (partitionAt (s .room) ws i) → Reaching s ws i k i k
+  reaching-none h l = record { within = h; here = l; rest = refl }
 
-  -- at a partition's end, the next partition's first row is next
-  sought-next : (j at : ℕ) → j < s .count → counted (partitionAt (s .room) ws j) ≤ at → Sought s ws i k j at
-      → Sought s ws i k (j + 1) 0
-  sought-next j at h l q = record {
-    within = omega arith;
-    here = omega arith;
-    rest = sym (kept-next s ws j at h (q .here) ∙ rw (drop-of-length-le rs long)) ∙ q .rest;
-  }
-    where
-      part : List ℕ
-      part = partitionAt (s .room) ws j
-
-      rs : List Row
-      rs = rowsIn part
-
-      long : length rs ≤ at
-      long = rw (length-rows part) l
-
-  -- the cursor stands at a row that touches the window, or past the last
-  reached-row : (c : Cursor) → c .found ≡ true → c .partition .0 < s .count
-      → Sought s ws i k (c .partition .0) (c .row)
-      → c .row < counted (partitionAt (s .room) ws (c .partition .0))
-      → touching (s .window) (current s ws c) ≡ true → Reached s ws i k c
-  unfolding left
-  reached-row c e h q l t = record {
-    stands = record {
-      partition = λ f. h;
-      row = λ f. l;
-      touched = λ f. t;
-      ended = λ f. absurd (true≢false (sym e ∙ f));
-    };
-    rest = q .rest;
-  }
-
-  pub reached-end : (c : Cursor) → c .found ≡ false → s .count ≤ c .partition .0 → {row : ℕ}
-      → Sought s ws i k (c .partition .0) row → Reached s ws i k c
-  unfolding left
-  reached-end c e h {row} q = record {
-    stands = record {
-      partition = λ f. absurd (true≢false (sym f ∙ e));
-      row = λ f. absurd (true≢false (sym f ∙ e));
-      touched = λ f. absurd (true≢false (sym f ∙ e));
-      ended = λ f. kept-none s ws (c .partition .0) (c .row) h;
-    };
-    rest = kept-none s ws (c .partition .0) (c .row) h ∙ sym (kept-none s ws (c .partition .0) row h) ∙ q .rest;
-  }
-
-  module _ (j row : ℕ) (h : j < s .count) (q : Sought s ws i k j row) where
+  -- a turn of the loop, in a partition that is partition j, with the cursor that `seek` gave: it is the one, or there
+  -- is none in this partition, and the next one's first row is next
+  module _ (j place : ℕ) (h : j < s .count) (q : Reaching s ws i k j place) (part : List ℕ)
+      (e : part ≡ partitionAt (s .room) ws j) (c : Cursor) (f : Sought (s .window) part j place c) where
     abbrev here : List ℕ
     here = partitionAt (s .room) ws j
 
-    abbrev at : ℕ
-    at = placeFrom s here row
+    -- what `seek` promised, of that partition
+    sought : Sought (s .window) here j place c
+    sought = rw (← e) f
 
-    -- it is in the partition or its end, and as much is left there
-    place-within : at ≤ counted here
-    place-within =
-        let rs = rowsIn here in
-        let p = touching (s .window) in
-        omega (arith, q .here, place-most p (drop row rs), length-drop row rs, length-rows here)
+    pub turn-ends : c .found ≡ true → Reached s ws i k c
+    unfolding left
+    turn-ends y = record {
+      stands = record {
+        partition = λ _. rw (sought .partition) h;
+        place = λ _. rw (sought .partition) (sought .place y);
+        row = λ _. rw (sought .partition) (sought .row y);
+        touched = λ _. sought .touched y;
+        ended = λ n. absurd (true≢false (sym y ∙ n));
+      };
+      rest = rw (sought .partition)
+          (kept-next s ws j (c .place) h (omega (arith, sought .place y))
+          ∙ ap (λ (rs : List Row). rs ++ kept s ws (j + 1) 0) (sought .rest y)
+          ∙ sym (kept-next s ws j place h (q .here)) ∙ q .rest);
+    }
 
-    sought-place : Sought s ws i k j at
-    sought-place =
-        let rs = rowsIn here in
-        let p = touching (s .window) in
-        record {
-          within = q .within;
-          here = place-within;
-          rest = kept-next s ws j at h place-within
-              ∙ ap (λ (l : List Row). l ++ kept s ws (j + 1) 0)
-              (ap (keep p) (sym (drop-drop (placeOf p (drop row rs)) row rs)) ∙ keep-place p (drop row rs))
-              ∙ sym (kept-next s ws j row h (q .here)) ∙ q .rest;
-        }
+    pub turn-goes-on : c .found ≡ false → Reaching s ws i k (j + 1) 0
+    turn-goes-on n = record {
+      within = omega arith;
+      here = omega arith;
+      rest = sym (kept-next s ws j place h (q .here)
+          ∙ ap (λ (rs : List Row). rs ++ kept s ws (j + 1) 0) (sought .none n))
+          ∙ q .rest;
+    }
 
-    -- the row there, where there is one, touches the window
-    place-touches : at < counted here → touching (s .window) (rowAt here at) ≡ true
-    place-touches l =
-        let rs = rowsIn here in
-        let p = touching (s .window) in
-        let d = rowAt here at in
-        ap p (sym (getD-drop row rs (placeOf p (drop row rs)) d ∙ row-in at here d l))
-        ∙ place-passes p (drop row rs) d (omega (arith, length-drop row rs, length-rows here))
-
-  -- a turn of the loop, in a partition that is partition j, to the place that `place_from` gave: it ends there, or goes
-  -- on to the next partition
-  module _ (j row : ℕ) (h : j < s .count) (q : Sought s ws i k j row) (part : List ℕ) (at : ℕ)
-      (e : part ≡ partitionAt (s .room) ws j) (f : at ≡ placeFrom s part row) where
-    at-place : at ≡ placeFrom s (partitionAt (s .room) ws j) row
-    at-place = f ∙ ap (λ (ps : List ℕ). placeFrom s ps row) e
-
-    turned : Sought s ws i k j at
-    turned = rw at-place (sought-place j row h q)
-
-    pub turn-ends : at < counted part → Reached s ws i k (cursorAt j at)
-    turn-ends l =
-        let l′ : at < counted (partitionAt (s .room) ws j) = rw (← e) l in
-        reached-row (cursorAt j at) refl h turned l′ (rw at-place (place-touches j row h q (rw (← at-place) l′)))
-
-    pub turn-goes-on : counted part ≤ at → Sought s ws i k (j + 1) 0
-    turn-goes-on l = sought-next j at h (rw (← e) l) turned
+  -- past the last partition there is no row
+  pub reached-end : (j place : ℕ) → s .count ≤ j → Reaching s ws i k j place → (c : Cursor) → c .partition .0 ≡ j
+      → c .found ≡ false → Reached s ws i k c
+  unfolding left
+  reached-end j place h q c e n = record {
+    stands = record {
+      partition = λ y. absurd (true≢false (sym y ∙ n));
+      place = λ y. absurd (true≢false (sym y ∙ n));
+      row = λ y. absurd (true≢false (sym y ∙ n));
+      touched = λ y. absurd (true≢false (sym y ∙ n));
+      ended = λ _. kept-none s ws (c .partition .0) (c .place) (rw e h);
+    };
+    rest = kept-none s ws (c .partition .0) (c .place) (rw e h) ∙ sym (kept-none s ws j place h) ∙ q .rest;
+  }
 
 -- ---- the row at a cursor is the first of those that are left, and the others are left at the next
 
 pub left-first : (s : Scan) (ws : List ℕ) (c : Cursor) → Stands s ws c → c .found ≡ true
-    → left s ws c ≡ current s ws c ∷ kept s ws (c .partition .0) (c .row + 1)
+    → left s ws c ≡ c .row ∷ kept s ws (c .partition .0) (c .place + 1)
 unfolding left
 left-first s ws c q e =
-    kept-first s ws (c .partition .0) (c .row) (q .partition e) (q .row e) (q .touched e)
+    kept-first s ws (c .partition .0) (c .place) (q .partition e) (q .place e) (rw (← q .row e) (q .touched e))
+    ∙ ap (λ (r : Row). r ∷ kept s ws (c .partition .0) (c .place + 1)) (sym (q .row e))
 
 pub advanced : (s : Scan) (ws : List ℕ) (c c′ : Cursor) → Stands s ws c → c .found ≡ true
-    → Reached s ws (c .partition .0) (c .row + 1) c′ → Advanced s ws c c′
+    → Reached s ws (c .partition .0) (c .place + 1) c′ → Advanced s ws c c′
 advanced s ws c c′ q e r = record {
   stands = r .stands;
-  rest = left-first s ws c q e ∙ ap (λ (rs : List Row). current s ws c ∷ rs) (sym (r .rest));
+  rest = left-first s ws c q e ∙ ap (λ (rs : List Row). c .row ∷ rs) (sym (r .rest));
 }

@@ -40,32 +40,41 @@ pub record Scannable (s : Scan) (ws : List ℕ) : Type 0 where
   pub roomy : Roomy rowWidth (s .room) (s .count) ws
   pub inside : s .from .0 ≤ s .count
 
--- the row at a cursor
-abbrev pub current : Scan → List ℕ → Cursor → Row
-current s ws c = rowAt (partitionAt (s .room) ws (c .partition .0)) (c .row)
-
 -- what is left to be handed out at a cursor, its own row first
 unfoldable pub left : Scan → List ℕ → Cursor → List Row
-left s ws c = keep (touching (s .window)) (drop (c .row) (scannedFrom s ws (c .partition .0)))
+left s ws c = keep (touching (s .window)) (drop (c .place) (scannedFrom s ws (c .partition .0)))
 
--- a cursor that stands at a row which is handed out, or past the last
+-- a cursor that stands at a row which is handed out, and has it, or past the last
 pub record Stands (s : Scan) (ws : List ℕ) (c : Cursor) : Type 0 where
   pub partition : c .found ≡ true → c .partition .0 < s .count
-  pub row : c .found ≡ true → c .row < counted (partitionAt (s .room) ws (c .partition .0))
-  pub touched : c .found ≡ true → touching (s .window) (current s ws c) ≡ true
+  pub place : c .found ≡ true → c .place < counted (partitionAt (s .room) ws (c .partition .0))
+  pub row : c .found ≡ true → c .row ≡ rowAt (partitionAt (s .room) ws (c .partition .0)) (c .place)
+  pub touched : c .found ≡ true → touching (s .window) (c .row) ≡ true
   pub ended : c .found ≡ false → left s ws c ≡ []
-
--- the first row from row k of partition i on that is handed out
-pub record Reached (s : Scan) (ws : List ℕ) (i k : ℕ) (c : Cursor) : Type 0 where
-  pub stands : Stands s ws c
-  pub rest : left s ws c ≡ keep (touching (s .window)) (drop k (scannedFrom s ws i))
 
 -- at the first row that is handed out: all are left
 pub record Started (s : Scan) (ws : List ℕ) (c : Cursor) : Type 0 where
   pub stands : Stands s ws c
   pub rest : left s ws c ≡ chosen s ws
 
--- one row further: it was the first of those that were left
+-- one row further: the one before was the first of those that were left
 pub record Advanced (s : Scan) (ws : List ℕ) (c c′ : Cursor) : Type 0 where
   pub stands : Stands s ws c′
-  pub rest : left s ws c ≡ current s ws c ∷ left s ws c′
+  pub rest : left s ws c ≡ c .row ∷ left s ws c′
+
+-- ---- what the steps promise one another
+
+-- the first row from row k on, of the partition `part` with number i, that has a chronon in common with the window
+pub record Sought (window : Interval) (part : List ℕ) (i k : ℕ) (c : Cursor) : Type 0 where
+  pub partition : c .partition .0 ≡ i
+  pub place : c .found ≡ true → c .place < counted part
+  pub row : c .found ≡ true → c .row ≡ rowAt part (c .place)
+  pub touched : c .found ≡ true → touching window (c .row) ≡ true
+  pub rest : c .found ≡ true
+      → keep (touching window) (drop (c .place) (rowsIn part)) ≡ keep (touching window) (drop k (rowsIn part))
+  pub none : c .found ≡ false → keep (touching window) (drop k (rowsIn part)) ≡ []
+
+-- the first row from row k of partition i on that is handed out
+pub record Reached (s : Scan) (ws : List ℕ) (i k : ℕ) (c : Cursor) : Type 0 where
+  pub stands : Stands s ws c
+  pub rest : left s ws c ≡ keep (touching (s .window)) (drop k (scannedFrom s ws i))

@@ -3,15 +3,15 @@
 //
 // The functions ask by their `requires` what a plan and a rows store that passed checks 1 to 5 give. Cost: each row of
 // those partitions is read once from `first` to the last `next`. The definitions are in specs/Cursor.
-ghost use mathlib.Core.Bool.{true};
+ghost use mathlib.Core.Bool.{true, false};
 ghost use mathlib.Core.Path.{_≡_};
-ghost use Prim.Native.Nat.{_+_, _≤_, _<_};
-ghost use lib.ListN.{length, drop};
-ghost use Rattle.lists.specs.Members.{placeOf};
+ghost use Prim.Native.Nat.{_≤_};
+ghost use lib.ListN.{length};
 ghost use Rattle.interval.specs.Tuple.{rowWidth};
-ghost use Rattle.part.specs.Part.{roomOf, counted, rowsIn};
+ghost use Rattle.part.specs.Part.{roomOf, counted};
 ghost use Rattle.store.specs.Store.{partitionAt};
-ghost use Rattle.cursor.specs.Cursor.{touching, Scannable, current, scanned, Stands, Reached, Started, Advanced};
+ghost use Rattle.cursor.specs.Cursor.{touching, Scannable, scanned, Stands, Sought, Reached, Started, Advanced};
+use interval::time::Chronon;
 use interval::time::Interval;
 use interval::tuple::Row;
 use plan::PartitionIndex;
@@ -25,11 +25,13 @@ pub struct Scan {
     pub window: Interval,
 }
 
-// A place in what is read: whether there is a row, its partition and its place there, counted from 0.
+// A place in what is read: whether there is a row, its partition and its place there, counted from 0, and the row, as
+// it was read; with no row, a row of zeros.
 pub struct Cursor {
     pub found: bool,
     pub partition: PartitionIndex,
-    pub row: usize,
+    pub place: usize,
+    pub row: Row,
 }
 
 // Whether a row has a chronon in common with the window.
@@ -42,21 +44,50 @@ fn touches(window: Interval, row: Row) -> bool
     window.first.0 <= row.valid.last.0
 }
 
-// The place of the first row of a partition, from row k on, that touches the window; the count where none does.
-fn place_from(part: &[u64], window: Interval, k: usize) -> usize
+// Past the rows of a partition: no row.
+fn past(i: PartitionIndex) -> Cursor
+    ensures { λ r. ⌜ (r .found ≡ false) × (r .partition ≡ i) ⌝ }
+{
+    let start = Chronon(0);
+    let valid = Interval {
+        first: start,
+        last: start,
+    };
+    let row = Row {
+        label: 0,
+        outer: 0,
+        inner: 0,
+        valid,
+    };
+    Cursor {
+        found: false,
+        partition: i,
+        place: 0,
+        row,
+    }
+}
+
+// The first row of partition i, from row k on, that touches the window. Each row is read once.
+fn seek(part: &[u64], window: Interval, i: PartitionIndex, k: usize) -> Cursor
     requires { ⌜ roomOf rowWidth (counted (now part)) ≤ length (now part) ⌝ }
     requires { ⌜ k ≤ counted (now part) ⌝ }
-    ensures { λ r. ⌜ r ≡ k + placeOf (touching window) (drop k (rowsIn (now (part .entry)))) ⌝ }
+    ensures { λ r. ⌜ Sought window (now (part .entry)) (i .0) k r ⌝ }
 {
     let n = part::count(part) as usize;
-    let mut at = k;
-    while at < n {
-        if touches(window, part::row_at(part, at)) {
-            return at;
+    let mut place = k;
+    while place < n {
+        let row = part::row_at(part, place);
+        if touches(window, row) {
+            return Cursor {
+                found: true,
+                partition: i,
+                place,
+                row,
+            };
         }
-        at += 1;
+        place += 1;
     }
-    at
+    past(i)
 }
 
 // The first row, from row k of partition i on, that touches the window.
@@ -67,25 +98,17 @@ fn reach(rows: &[u64], scan: Scan, i: PartitionIndex, k: usize) -> Cursor
     ensures { λ r. ⌜ Reached scan (now (rows .entry)) (i .0) k r ⌝ }
 {
     let mut j = i.0;
-    let mut row = k;
+    let mut place = k;
     while j < scan.count {
         let part = store::partition(rows, scan.room, PartitionIndex(j));
-        let at = place_from(part, scan.window, row);
-        if (at as u64) < part::count(part) {
-            return Cursor {
-                found: true,
-                partition: PartitionIndex(j),
-                row: at,
-            };
+        let at = seek(part, scan.window, PartitionIndex(j), place);
+        if at.found {
+            return at;
         }
         j += 1;
-        row = 0;
+        place = 0;
     }
-    Cursor {
-        found: false,
-        partition: PartitionIndex(j),
-        row: 0,
-    }
+    past(PartitionIndex(j))
 }
 
 // The first row that a scan hands out.
@@ -96,16 +119,6 @@ pub fn first(rows: &[u64], scan: Scan) -> Cursor
     reach(rows, scan, scan.from, 0)
 }
 
-// The row at a cursor.
-pub fn row_at(rows: &[u64], scan: Scan, at: Cursor) -> Row
-    requires { ⌜ Scannable scan (now rows) ⌝ }
-    requires { ⌜ Stands scan (now rows) at ⌝ }
-    requires { ⌜ at .found ≡ true ⌝ }
-    ensures { λ r. ⌜ r ≡ current scan (now (rows .entry)) at ⌝ }
-{
-    part::row_at(store::partition(rows, scan.room, at.partition), at.row)
-}
-
 // The next row after the one at a cursor.
 pub fn next(rows: &[u64], scan: Scan, at: Cursor) -> Cursor
     requires { ⌜ Scannable scan (now rows) ⌝ }
@@ -113,7 +126,7 @@ pub fn next(rows: &[u64], scan: Scan, at: Cursor) -> Cursor
     requires { ⌜ at .found ≡ true ⌝ }
     ensures { λ r. ⌜ Advanced scan (now (rows .entry)) at r ⌝ }
 {
-    reach(rows, scan, at.partition, at.row + 1)
+    reach(rows, scan, at.partition, at.place + 1)
 }
 
 // How many rows a scan reads: those stored in its partitions.

@@ -7,7 +7,7 @@ use Prim.Native.Nat.{ℕ, suc, _<_}
 use native.Mathlib.Omega.{arith}
 use lib.ListN.{length, length-map}
 use Rattle.interval.specs.declared.tuple.Row.{Row}
-use Rattle.cursor.specs.Cursor.{chosen, current, left, Stands, Started, Advanced}
+use Rattle.cursor.specs.Cursor.{chosen, left, Stands, Started, Advanced}
 use Rattle.cursor.specs.declared.Scan.{Scan}
 use Rattle.cursor.specs.declared.Cursor.{Cursor}
 use Rattle.cursor.proofs.Cursors.{left-first}
@@ -42,19 +42,16 @@ module _ (s : Scan) (ws : List ℕ) (xs : List Question) where
         (ap (λ (rs : List Row). roomFor (length rs) ys) (sym (left-first s ws c (h .stands) e)) ∙ h .room)
 
     -- after it, at the next one
-    pub counting-next : (r : Row) → r ≡ current s ws c → (zs : List Question) → zs ≡ map (withRow r) ys
-        → (c′ : Cursor) → Advanced s ws c c′ → Counting s ws xs c′ zs
-    counting-next r e zs f c′ adv = record {
+    pub counting-next : (zs : List Question) → zs ≡ map (withRow (c .row)) ys → (c′ : Cursor) → Advanced s ws c c′
+        → Counting s ws xs c′ zs
+    counting-next zs e c′ adv = record {
       stands = adv .stands;
-      long = ap length f ∙ length-map ys (withRow r) ∙ h .long;
-      after = ap (afterRows (left s ws c′)) g ∙ ap (λ (rs : List Row). afterRows rs ys) (sym (adv .rest)) ∙ h .after;
-      room = ap (roomFor (length (left s ws c′))) g
-          ∙ room-next (length (left s ws c′)) (current s ws c) ys
+      long = ap length e ∙ length-map ys (withRow (c .row)) ∙ h .long;
+      after = ap (afterRows (left s ws c′)) e ∙ ap (λ (rs : List Row). afterRows rs ys) (sym (adv .rest)) ∙ h .after;
+      room = ap (roomFor (length (left s ws c′))) e
+          ∙ room-next (length (left s ws c′)) (c .row) ys
           (ap (λ (rs : List Row). roomFor (length rs) ys) (sym (adv .rest)) ∙ h .room);
     }
-      where
-        g : zs ≡ map (withRow (current s ws c)) ys
-        g = f ∙ ap (λ (p : Row). map (withRow p) ys) e
 
     -- past the last, all rows were read
     pub counting-end : c .found ≡ false → ys ≡ afterRows (chosen s ws) xs

@@ -7,8 +7,7 @@ use mathlib.Core.Path.{_≡_, refl, sym, ap, _∙_}
 use Prim.Native.Nat.{ℕ}
 use lib.ListN.{length}
 use Rattle.lists.specs.Members.{gather}
-use Rattle.interval.specs.declared.tuple.Row.{Row}
-use Rattle.cursor.specs.Cursor.{chosen, current, Started, Advanced}
+use Rattle.cursor.specs.Cursor.{chosen, Started, Advanced}
 use Rattle.cursor.specs.declared.Cursor.{Cursor}
 use Rattle.cursor.specs.declared.Scan.{Scan}
 use Rattle.question.specs.Steps.{withRow, afterRows, roomFor}
@@ -48,11 +47,10 @@ module _ (s : Scan) (rows ws : List ℕ) where
 
   -- it was counted
   pub words-next : (at at′ : Cursor) {ws′ ws″ : List ℕ} → CountingWords s rows ws at ws′ → Advanced s rows at at′
-      → (r : Row) → r ≡ current s rows at → WordsBecame (map (withRow r) (questionsIn ws′)) ws′ ws″
-      → CountingWords s rows ws at′ ws″
-  words-next at at′ {ws′} {ws″} k next r e b = record {
+      → WordsBecame (map (withRow (at .row)) (questionsIn ws′)) ws′ ws″ → CountingWords s rows ws at′ ws″
+  words-next at at′ {ws′} {ws″} k next b = record {
     counting =
-        counting-next s rows (questionsIn ws) at (questionsIn ws′) (k .counting) r e (questionsIn ws″)
+        counting-next s rows (questionsIn ws) at (questionsIn ws′) (k .counting) (questionsIn ws″)
         (became-questions b) at′ next;
     whole = whole-long ws′ ws″ (b .long) (k .whole);
     long = b .long ∙ k .long;

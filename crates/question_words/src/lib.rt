@@ -85,7 +85,7 @@ fn count_rows(rows: &[u64], scan: Scan, ws: &mut [u64])
 {
     let mut at = cursor::first(rows, scan);
     while at.found {
-        let r = cursor::row_at(rows, scan, at);
+        let r = at.row;
         count_row(ws, r);
         at = cursor::next(rows, scan, at);
     }

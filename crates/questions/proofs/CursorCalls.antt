@@ -1,7 +1,8 @@
 -- The functions of crate cursor as a walk by hand calls them: their contracts, of what they ensure the clause alone,
 -- and that a caller has what they ask.
 --     cv, cursor-val, cursor-is        a cursor's machine value; what came back is that, and is one of its type
---     First, first-of, to-first, goes-first        of `cursor::first`; likewise of `row_at` and `next`
+--     rv, row-is                       the machine value of its row, and that it is one of a row's type
+--     First, first-of, to-first, goes-first        of `cursor::first`; likewise of `next`
 -- Assumes `Given`.
 use mathlib.Core.Path.{_≡_, ap, subst}
 use mathlib.Core.Bool.{true}
@@ -29,16 +30,16 @@ use denote.Triple.Statement.{Contract}
 use denote.Triple.Clauses.{ensured, lasts}
 use denote.Triple.Spec.{tripleOf}
 use denote.Triple.Walked.{says}
-use Rattle.interval.specs.declared.tuple.Row.{Row}
-use Rattle.cursor.specs.Cursor.{Scannable, current, Stands, Started, Advanced}
+use Rattle.cursor.specs.Cursor.{Scannable, Stands, Started, Advanced}
 use Rattle.cursor.specs.declared.Scan.{Scan}
 use Rattle.cursor.specs.declared.Cursor.{Cursor}
+use Rattle.interval.proofs.tuple.Row as R
+use Rattle.interval.proofs.tuple.Row.Laws as R′
 use Rattle.cursor.proofs.Scan as S
 use Rattle.cursor.proofs.Scan.Laws as S′
 use Rattle.cursor.proofs.Cursor as K
 use Rattle.cursor.proofs.Cursor.Laws as K′
 use Rattle.cursor.proofs.first as first-row
-use Rattle.cursor.proofs.row_at as row-at
 use Rattle.cursor.proofs.next as next-row
 
 -- ---- a cursor's machine value
@@ -51,6 +52,12 @@ cursor-val c w isc = ap only (LL.tells K.the-type K′.the-laws c (w ∷ []) isc
 
 pub cursor-is : (c : Cursor) (w : Val) → Is K.the-row c (w ∷ []) → Is K.the-row c (LL.vals K.the-type K′.the-laws c)
 cursor-is c w isc = subst (λ (vs : List Val). Is K.the-row c vs) (LL.tells K.the-type K′.the-laws c (w ∷ []) isc) isc
+
+abbrev pub rv : Cursor → Val
+rv c = LL.val R.the-type R′.the-laws (c .row)
+
+pub row-is : (c : Cursor) → Is K.the-row c (LL.vals K.the-type K′.the-laws c) → Is R.the-row (c .row) (rv c ∷ [])
+row-is c isc = LL.owed K.the-type K′.the-laws c _ isc .1 .1 .1 .0
 
 -- ---- facts in a goal
 
@@ -76,9 +83,6 @@ module _ {M : Type 1} (𝓤 : URA M) (H : Heap 𝓤) (A : Atoms 𝓤) (mem : Mem
   abbrev pub First : Contract 𝓤
   First = tripleOf 𝓤 H A first-row.signature (first-row.spec 𝓤 H A mem run)
 
-  abbrev pub RowAt : Contract 𝓤
-  RowAt = tripleOf 𝓤 H A row-at.signature (row-at.spec 𝓤 H A mem run)
-
   abbrev pub Next : Contract 𝓤
   Next = tripleOf 𝓤 H A next-row.signature (next-row.spec 𝓤 H A mem run)
 
@@ -91,14 +95,6 @@ module _ {M : Type 1} (𝓤 : URA M) (H : Heap 𝓤) (A : Atoms 𝓤) (mem : Mem
         exE 𝓤 _
         (λ ws. snd∗ 𝓤 (sem 𝓤 H A (lasts first-row.ended (κ, tt) (s, (scan, tt)) ws))
         (fact 𝓤 (Started scan (s .now) z)))
-
-    pub row-of : (c : Cursor) (z : Row)
-        → ent 𝓤 (ensured 𝓤 H A row-at.ended (row-at.clauses 𝓤 H A mem run) (κ, tt) (s, (scan, (c, tt))) tt z)
-        (fact 𝓤 (z ≡ current scan (s .now) c))
-    row-of c z =
-        exE 𝓤 _
-        (λ ws. snd∗ 𝓤 (sem 𝓤 H A (lasts row-at.ended (κ, tt) (s, (scan, (c, tt))) ws))
-        (fact 𝓤 (z ≡ current scan (s .now) c)))
 
     pub next-of : (c z : Cursor)
         → ent 𝓤 (ensured 𝓤 H A next-row.ended (next-row.clauses 𝓤 H A mem run) (κ, tt) (s, (scan, (c, tt))) tt z)
@@ -118,9 +114,6 @@ module _ {M : Type 1} (𝓤 : URA M) (H : Heap 𝓤) (A : Atoms 𝓤) (mem : Mem
 
     abbrev pub to-first : First .Ghost
     to-first = (((κ, tt), (q, tt), tt, (s, (scan, tt)), (v ∷ [], (scv ∷ [], tt))), tt)
-
-    abbrev pub to-row : Cursor → RowAt .Ghost
-    to-row c = (((κ, tt), (q, tt), tt, (s, (scan, (c, tt))), (v ∷ [], (scv ∷ [], (cv c ∷ [], tt)))), tt)
 
     abbrev pub to-next : Cursor → Next .Ghost
     to-next c = (((κ, tt), (q, tt), tt, (s, (scan, (c, tt))), (v ∷ [], (scv ∷ [], (cv c ∷ [], tt)))), tt)
@@ -142,19 +135,11 @@ module _ {M : Type 1} (𝓤 : URA M) (H : Heap 𝓤) (A : Atoms 𝓤) (W : Given
 
   module _ (c : Cursor) (isc : Is K.the-row c (LL.vals K.the-type K′.the-laws c)) (stands : Stands scan (s .now) c)
       (e : c .found ≡ true) where
-    -- `row_at` and `next` ask the same three facts
+    -- the three facts that `next` asks
     asked : ent 𝓤 (emp 𝓤)
         (sep 𝓤 (fact 𝓤 (Scannable scan (s .now)))
         (sep 𝓤 (fact 𝓤 (Stands scan (s .now) c)) (fact 𝓤 (c .found ≡ true))))
     asked = beside 𝓤 _ _ sound (beside 𝓤 _ _ stands (factI 𝓤 _ (emp 𝓤) e))
-
-    pub goes-row : ent 𝓤 (sep 𝓤 (A .lft κ q) (sem 𝓤 H A Own))
-        (RowAt 𝓤 H A mem run .pre (to-row 𝓤 H A mem run κ q s scan c))
-    goes-row =
-        qed W (‵ (flft κ q) ∷ ‵ Own ∷ []) ∵ free ! asked $ nothing ! $ move ! (1 ∷ 0 ∷ []) $ join ! $ frame ! $
-        nothing ! $ owned ! K.the-row (Is K.the-row) (LL.makes K.the-type K′.the-plain 𝓤 H A) c _ isc $ fjoin ! $
-        owned ! S.the-row (Is S.the-row) (LL.makes S.the-type S′.the-plain 𝓤 H A) scan _ iscan $ fjoin ! $
-        move ! (1 ∷ 0 ∷ []) $ fjoin ! $ done !
 
     pub goes-next : ent 𝓤 (sep 𝓤 (A .lft κ q) (sem 𝓤 H A Own))
         (Next 𝓤 H A mem run .pre (to-next 𝓤 H A mem run κ q s scan c))

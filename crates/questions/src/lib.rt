@@ -63,7 +63,7 @@ fn count_rows(rows: &[u64], scan: Scan, qs: &mut [Question])
 {
     let mut at = cursor::first(rows, scan);
     while at.found {
-        let r = cursor::row_at(rows, scan, at);
+        let r = at.row;
         count_row(qs, r);
         at = cursor::next(rows, scan, at);
     }

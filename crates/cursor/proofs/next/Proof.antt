@@ -10,7 +10,7 @@ add-reach c =
     let partition = pre .1 .0 .partition (pre .1 .1) in
     omega (
       arith,
-      pre .1 .0 .row (pre .1 .1),
+      pre .1 .0 .place (pre .1 .1),
       pre .0 .roomy .within _ partition,
       scan-inside _ _ (pre .0) _ partition,
     )
@@ -19,7 +19,7 @@ reach-requires : tie.Need-reach-requires
 reach-requires c κs =
     let pre = c .before .before .pre in
     let partition = pre .1 .0 .partition (pre .1 .1) in
-    let row = pre .1 .0 .row (pre .1 .1) in
+    let row = pre .1 .0 .place (pre .1 .1) in
     (pre .0, (omega (arith, partition), omega (arith, row)))
 
 returns : tie.Need-returns

@@ -22,11 +22,6 @@ loop-holds c =
     let start = c .before .before .before in
     words-first _ _ _ (start .pre .0) (start .pre .1 .1) (c .first .result) (c .first .ensures)
 
-row-at-requires : tie.Need-row-at-requires Inv-loop μ-loop
-row-at-requires c κs =
-    let stands = c .before .loop .inv .counting .stands in
-    (c .before .before .before .before .before .pre .1 .0, (stands, c .loop-test .taken))
-
 count-row-requires : tie.Need-count-row-requires Inv-loop μ-loop
 count-row-requires c κs =
     let turn = c .before .before in
@@ -48,10 +43,8 @@ loop-less c =
 loop-again : tie.Need-loop-again Inv-loop μ-loop
 loop-again c =
     let counted = c .before .before .before in
-    let read = counted .before .before in
-    let at = read .before .before .loop in
-    words-next _ _ _ (at .at) (c .next .result) (at .inv) (c .next .ensures) (read .row-at .result)
-    (read .row-at .ensures) (counted .count-row .ensures)
+    let at = counted .before .before .before .before .loop in
+    words-next _ _ _ (at .at) (c .next .result) (at .inv) (c .next .ensures) (counted .count-row .ensures)
 
 same-length : tie.Need-same-length Inv-loop μ-loop
 same-length c = c .before .loop .inv .long
@@ -67,7 +60,6 @@ count-rows-spec =
     μ-loop
     first-requires
     loop-holds
-    row-at-requires
     count-row-requires
     next-requires
     loop-less

@@ -1,6 +1,6 @@
--- `questions::count_rows` meets its contract: a walk of its MIR, by hand, with a loop. A turn reads the row at the
--- cursor by `cursor::row_at`, lends the slice of questions again, for a lifetime of the call, to `count_row`, and asks
--- `cursor::next` for the next cursor. What holds at a cursor is `Counting` (Turns.antt).
+-- `questions::count_rows` meets its contract: a walk of its MIR, by hand, with a loop. A turn takes the
+-- cursor's row, lends the slice of questions again, for a lifetime of the call, to `count_row`, and asks `cursor::next`
+-- for the next cursor. What holds at a cursor is `Counting` (Turns.antt).
 -- Assumes nothing.
 use mathlib.Core.Path.{_≡_, refl, sym, ap, subst}
 use mathlib.Core.Bool.{Bool, true, false}
@@ -50,16 +50,15 @@ use denote.Triple.Table.{entered, cited}
 use denote.Triple.Walked.{says, needs, Stays, stay-slice, stay-none, stay-none-slice, walkOf, goes-slice, goes-none}
 use denote.Triple.Walked.{goes-none-slice, Walks, ends-at, walked, walk-meets}
 use denote.Exit.{yes}
-use Rattle.interval.specs.declared.tuple.Row.{Row}
-use Rattle.cursor.specs.Cursor.{chosen, Scannable, current, left, Started, Advanced}
+use Rattle.cursor.specs.Cursor.{chosen, Scannable, left, Started, Advanced}
 use Rattle.cursor.specs.declared.Scan.{Scan}
 use Rattle.cursor.specs.declared.Cursor.{Cursor}
 use Rattle.question.specs.Steps.{withRow, afterRows, roomFor}
 use Rattle.question.specs.declared.Question.{Question}
 use Rattle.questions.proofs.Again.{LentAgain, lends-again, comes-back}
-use Rattle.questions.proofs.CursorCalls.{cv, First, RowAt, Next, first-of, row-of, next-of, cursor-val}
-use Rattle.questions.proofs.CursorCalls.{cursor-is}
-use Rattle.questions.proofs.CursorCalls.{to-first, to-row, to-next, goes-first, goes-row, goes-next}
+use Rattle.questions.proofs.CursorCalls.{cv, cursor-val, cursor-is, rv, row-is}
+use Rattle.questions.proofs.CursorCalls.{First, first-of, to-first, goes-first, Next, next-of, to-next}
+use Rattle.questions.proofs.CursorCalls.{goes-next}
 use Rattle.question.proofs.Turns.{Counting, counting-first, counting-room, counting-next, counting-end}
 use Rattle.question.proofs.Turns.{counting-less}
 use Rattle.question.proofs.Question as Q
@@ -73,10 +72,6 @@ use Rattle.cursor.proofs.first as first-row
 use Rattle.cursor.proofs.first.Symbol as first-row-def
 use Rattle.cursor.proofs.first.Symbol.{name as #cursor·first}
 use Rattle.cursor.proofs.first.Met as first-row-thm
-use Rattle.cursor.proofs.row_at as row-at
-use Rattle.cursor.proofs.row_at.Symbol as row-at-def
-use Rattle.cursor.proofs.row_at.Symbol.{name as #cursor·row-at}
-use Rattle.cursor.proofs.row_at.Met as row-at-thm
 use Rattle.cursor.proofs.next as next-row
 use Rattle.cursor.proofs.next.Symbol as next-row-def
 use Rattle.cursor.proofs.next.Symbol.{name as #cursor·next}
@@ -201,13 +196,13 @@ module _ {M : Type 1} (𝓤 : URA M) (H : Heap 𝓤) (A : Atoms 𝓤) (W : Given
     known = counting-first scan (s .now) xs c st enough;
   }
 
-  abbrev moved : (t : Turn) (z : Row) → z ≡ current scan (s .now) (t .at) → (zs : List Question) → zs ≡ map (withRow z)
-      (t .ys) → (c : Cursor) (w : Val) → Is K.the-row c (w ∷ []) → Advanced scan (s .now) (t .at) c → Turn
-  moved t z e zs e′ c w isc adv = record {
+  abbrev moved : (t : Turn) (zs : List Question) → zs ≡ map (withRow (t .at .row)) (t .ys) → (c : Cursor) (w : Val)
+      → Is K.the-row c (w ∷ []) → Advanced scan (s .now) (t .at) c → Turn
+  moved t zs e c w isc adv = record {
     at = c;
     ys = zs;
     is = cursor-is c w isc;
-    known = counting-next scan (s .now) xs (t .at) (t .ys) (t .known) z e zs e′ c adv;
+    known = counting-next scan (s .now) xs (t .at) (t .ys) (t .known) zs e c adv;
   }
 
   -- what `count_row`'s triple binds outside, and that the caller has what it asks, at the questions lent again for the
@@ -215,20 +210,19 @@ module _ {M : Type 1} (𝓤 : URA M) (H : Heap 𝓤) (A : Atoms 𝓤) (W : Given
   abbrev Again : ℕ → GName → List Question → ℕ → Fml
   Again ν δ ys m = MutSlice (named 0) (ν ∷ []) Q.the-row .own (x δ ys) (sliceVal (b, o) m ∷ [])
 
-  abbrev to-count : ℕ → GName → List Question → Row → Val → CountRow 𝓤 H A mem run .Ghost
-  to-count ν δ ys z w = (((ν ∷ [], tt), (fullShare, tt), tt, (x δ ys, (z, tt)), (sv ∷ [], (w ∷ [], tt))), tt)
+  abbrev to-count : ℕ → GName → List Question → Cursor → CountRow 𝓤 H A mem run .Ghost
+  to-count ν δ ys c = (((ν ∷ [], tt), (fullShare, tt), tt, (x δ ys, (c .row, tt)), (sv ∷ [], (rv c ∷ [], tt))), tt)
 
-  goes-count : (ν : ℕ) (δ : GName) (ys : List Question) (z : Row) (w : Val) → roomFor 1 ys ≡ true
+  goes-count : (ν : ℕ) (δ : GName) (ys : List Question) (c : Cursor) → roomFor 1 ys ≡ true
       → ent 𝓤 (sep 𝓤 (A .lft (ν ∷ []) fullShare)
-      (sep 𝓤 (sem 𝓤 H A (Again ν δ ys (length xs))) (sem 𝓤 H A (R.the-row .own z (w ∷ [])))))
-      (CountRow 𝓤 H A mem run .pre (to-count ν δ ys z w))
-  goes-count ν δ ys z w small =
-      qed W (‵ (flft (ν ∷ []) fullShare) ∷ ‵ (Again ν δ ys (length xs)) ∷ ‵ (R.the-row .own z (w ∷ [])) ∷ []) ∵
-      says ! small $ nothing ! $ move ! (1 ∷ 0 ∷ []) $ join ! $ frame ! $
+      (sep 𝓤 (sem 𝓤 H A (Again ν δ ys (length xs))) (sem 𝓤 H A (R.the-row .own (c .row) (rv c ∷ [])))))
+      (CountRow 𝓤 H A mem run .pre (to-count ν δ ys c))
+  goes-count ν δ ys c small =
+      qed W (‵ (flft (ν ∷ []) fullShare) ∷ ‵ (Again ν δ ys (length xs)) ∷ ‵ (R.the-row .own (c .row) (rv c ∷ [])) ∷ [])
+      ∵ says ! small $ nothing ! $ move ! (1 ∷ 0 ∷ []) $ join ! $ frame ! $
       nothing ! $ move ! (2 ∷ 0 ∷ []) $ fjoin ! $ move ! (1 ∷ 0 ∷ []) $ fjoin ! $ done !
 
   module _ (𝓣 : Tables 𝓤 H) (known-first : Triple 𝓤 (𝓣 .C #cursor·first) (First 𝓤 H A mem run))
-      (known-row : Triple 𝓤 (𝓣 .C #cursor·row-at) (RowAt 𝓤 H A mem run))
       (known-count : Triple 𝓤 (𝓣 .C #questions·count-row) (CountRow 𝓤 H A mem run))
       (known-next : Triple 𝓤 (𝓣 .C #cursor·next) (Next 𝓤 H A mem run)) (l₀ l₁ l₂ l₃ l₄ l₅ l₆ l₇ l₈ l₉ : ℕ) where
     abbrev C : Calls 𝓤 H
@@ -256,7 +250,7 @@ module _ {M : Type 1} (𝓤 : URA M) (H : Heap 𝓤) (A : Atoms 𝓤) (W : Given
     Turned t = afterTurn 𝓤 H (Below 𝓤 H A Nearer At t)
         (afterBlock 𝓤 H (afterSeq 𝓤 H (Wp 𝓤 H C Λ En mir′.t-3 (atReturn 𝓤 H En Post)) (atReturn 𝓤 H En Post)))
 
-    -- a turn that reads the row at the cursor
+    -- a turn that takes the cursor's row
     more : (t : Turn) → t .at .found ≡ true → Sq W (At t) (runs C Λ En mir′.turn-1 (anyQ (Turned t)))
     unfolding afterTurn
     more t e₀ =
@@ -264,22 +258,12 @@ module _ {M : Type 1} (𝓤 : URA M) (H : Heap 𝓤) (A : Atoms 𝓤) (W : Given
         (from ! (stop !)) (init ! 6 refl (tt, tt)) $
         rewrite ! 6 (λ (p : Bool). ‵ (fat fullShare tyBool l₆ 0 (vbool p))) e₀ refl $
         stays ! (load ! (from ! (stop !)) (look ! 6 refl)) $
-        -- `cursor::row_at`, with a copy of the run of words
-        move ! (20 ∷ []) $ use1 W (‵ Own ⊛ ‵ Own) (shr-slice-copy 𝓤 H A W (named 0) κ u64 .twice s (v ∷ [])) $ split ! $
-        move ! (22 ∷ 0 ∷ []) $ use2 W (raw (RowAt 𝓤 H A mem run .pre (to-row 𝓤 H A mem run κ q s scan (t .at))))
-        (goes-row 𝓤 H A W mem run κ q s scan iscan sound (t .at) (t .is) (t .known .stands) e₀) $
-        -- [what it asks; the words; _9; …; _0; …; the questions; their token]
-        calls-at ! (fmOf 𝓤 H (W .laws) 𝓣) (RowAt 𝓤 H A mem run) known-row (to-row 𝓤 H A mem run κ q s scan (t .at))
-        (and-then ! (load ! (from ! (stop !)) (look ! 18 refl)) (and-then ! (load ! (from ! (stop !)) (look ! 16 refl))
-        (and-then ! (load ! (from ! (stop !)) (look ! 12 refl)) (no-more !)))) (λ w.
-        use1 W (later (some (λ (z : Row). ((‵ (flft κ q) ⊛ ‵ ftrue) ⊛ ‵ (R.the-row .own z (w ∷ []))) ⊛ raw
-        (ensured 𝓤 H A row-at.ended (row-at.clauses 𝓤 H A mem run) (κ, tt) (s, (scan, (t .at, tt))) tt z))))
-        (id⊢ 𝓤 _) $ await ! tt $ pick ! (λ z.
-        split ! $ move ! (1 ∷ []) $
-        use1 W (raw (fact 𝓤 (z ≡ current scan (s .now) (t .at)))) (row-of 𝓤 H A mem run κ s scan (t .at) z) $
-        heard ! (z ≡ current scan (s .now) (t .at)) (λ e. split ! $ move ! (1 ∷ []) $
-        peeks ! R.the-row (Is R.the-row) (shows 𝓤 H A R.the-row) z (w ∷ []) (λ isz.
-        land ! (from ! (stop !)) (init ! 11 refl (LL.lawful R.the-type R′.the-laws 𝓤 H A W .typed z _ isz .0)) $
+        assigns ! (of-opd ! (load ! (from ! (fld ! refl (stop !))) (look-in ! 10 (sub ! 3 refl (whole !)))))
+        (from ! (stop !))
+        (init ! 8 refl (LL.lawful R.the-type R′.the-laws 𝓤 H A W .typed (t .at .row) _ (row-is (t .at) (t .is)) .0)) $
+        move ! (21 ∷ 20 ∷ []) $
+        owned ! R.the-row (Is R.the-row) (LL.makes R.the-type R′.the-plain 𝓤 H A) (t .at .row) _
+        (row-is (t .at) (t .is)) $
         -- [the row; the token; the words; _9; …; _0; …; the questions; their token]: the questions are lent again
         assigns ! (addr ! (from ! (fld ! refl (hop ! (look-in ! 15 (sub ! 0 refl (whole !))) (stop !)))))
         (from ! (stop !)) (init ! 5 refl (tt, tt)) $
@@ -292,20 +276,20 @@ module _ {M : Type 1} (𝓤 : URA M) (H : Heap 𝓤) (A : Atoms 𝓤) (W : Given
         (named 1) (named 0) (t .ys)) $ await ! tt $ pick ! (λ δ. split ! $
         rewrite ! 0 (λ (m : ℕ). ‵ (Again ν δ (t .ys) m)) (len t) refl $
         -- [the questions, lent; what is kept of them; the new token; the row; the token; the words; _9; …; _0; …]
-        move ! (2 ∷ 0 ∷ 3 ∷ []) $ use3 W (raw (CountRow 𝓤 H A mem run .pre (to-count ν δ (t .ys) z w)))
-        (goes-count ν δ (t .ys) z w (counting-room scan (s .now) xs (t .at) (t .ys) (t .known) e₀)) $
-        calls-at ! (fmOf 𝓤 H (W .laws) 𝓣) (CountRow 𝓤 H A mem run) known-count (to-count ν δ (t .ys) z w)
+        move ! (2 ∷ 0 ∷ 3 ∷ []) $ use3 W (raw (CountRow 𝓤 H A mem run .pre (to-count ν δ (t .ys) (t .at))))
+        (goes-count ν δ (t .ys) (t .at) (counting-room scan (s .now) xs (t .at) (t .ys) (t .known) e₀)) $
+        calls-at ! (fmOf 𝓤 H (W .laws) 𝓣) (CountRow 𝓤 H A mem run) known-count (to-count ν δ (t .ys) (t .at))
         (and-then ! (load ! (from ! (stop !)) (look ! 4 refl)) (and-then ! (load ! (from ! (stop !)) (look ! 12 refl))
         (no-more !))) (λ w′.
         use1 W (later (some (λ (u : Unit {0}).
         ((‵ (flft (ν ∷ []) fullShare) ⊛ ‵ ftrue) ⊛ ‵ (unit .own u (w′ ∷ []))) ⊛ raw
-        (ensured 𝓤 H A count-row.ended (count-row.clauses 𝓤 H A mem run) (ν ∷ [], tt) (x δ (t .ys), (z, tt)) tt u))))
-        (id⊢ 𝓤 _) $ await ! tt $ pick ! (λ u.
+        (ensured 𝓤 H A count-row.ended (count-row.clauses 𝓤 H A mem run) (ν ∷ [], tt) (x δ (t .ys), (t .at .row, tt)) tt
+        u)))) (id⊢ 𝓤 _) $ await ! tt $ pick ! (λ u.
         split ! $ move ! (1 ∷ []) $
         use1 W (some (λ (zs : List Question × (Unit {0} × Unit {0})). ‵
-        (lasts count-row.ended (ν ∷ [], tt) (x δ (t .ys), (z, tt)) zs) ⊛ raw
-        (fact 𝓤 (zs .0 ≡ map (withRow z) (t .ys))))) (id⊢ 𝓤 _) $ pick ! (λ zs.
-        split ! $ move ! (1 ∷ []) $ heard ! (zs .0 ≡ map (withRow z) (t .ys)) (λ e′. fsplit ! $ fsplit ! $
+        (lasts count-row.ended (ν ∷ [], tt) (x δ (t .ys), (t .at .row, tt)) zs) ⊛ raw
+        (fact 𝓤 (zs .0 ≡ map (withRow (t .at .row)) (t .ys))))) (id⊢ 𝓤 _) $ pick ! (λ zs.
+        split ! $ move ! (1 ∷ []) $ heard ! (zs .0 ≡ map (withRow (t .at .row)) (t .ys)) (λ e. fsplit ! $ fsplit ! $
         move ! (1 ∷ []) $ feqL ! (λ l.
         -- [the last list; …; the new token and the result; what is kept; the token; the words; _9; …]
         move ! (2 ∷ []) $ split ! $ move ! (1 ∷ []) $ feqL ! (λ e₂.
@@ -318,15 +302,15 @@ module _ {M : Type 1} (𝓤 : URA M) (H : Heap 𝓤) (A : Atoms 𝓤) (W : Given
         (subst (Room Q.the-row) (sym (len t)) room) l) $ await ! tt $ split ! $
         rewrite ! 0 (λ (m : ℕ). ‵ (Asks (zs .0) m)) (len t) refl $
         -- [the questions; their token; …; …; the token; the words; _9; …; _0; …]: `cursor::next`
-        move ! (4 ∷ []) $ split ! $ move ! (6 ∷ []) $
+        move ! (5 ∷ []) $
         use1 W (‵ Own ⊛ ‵ Own) (shr-slice-copy 𝓤 H A W (named 0) κ u64 .twice s (v ∷ [])) $ split ! $
-        move ! (2 ∷ 0 ∷ []) $ use2 W (raw (Next 𝓤 H A mem run .pre (to-next 𝓤 H A mem run κ q s scan (t .at))))
+        move ! (6 ∷ 0 ∷ []) $ use2 W (raw (Next 𝓤 H A mem run .pre (to-next 𝓤 H A mem run κ q s scan (t .at))))
         (goes-next 𝓤 H A W mem run κ q s scan iscan sound (t .at) (t .is) (t .known .stands) e₀) $
-        -- [what it asks; the words; …; the questions; their token; …; …; _9; …; _0; …]
+        -- [what it asks; the words; the questions; their token; …; …; _9; …; _0; …]
         calls-at-last ! (fmOf 𝓤 H (W .laws) 𝓣) (Next 𝓤 H A mem run) known-next
         (to-next 𝓤 H A mem run κ q s scan (t .at))
-        (and-then ! (load ! (from ! (stop !)) (look ! 23 refl)) (and-then ! (load ! (from ! (stop !)) (look ! 21 refl))
-        (and-then ! (load ! (from ! (stop !)) (look ! 17 refl)) (no-more !)))) (λ w₂.
+        (and-then ! (load ! (from ! (stop !)) (look ! 22 refl)) (and-then ! (load ! (from ! (stop !)) (look ! 20 refl))
+        (and-then ! (load ! (from ! (stop !)) (look ! 16 refl)) (no-more !)))) (λ w₂.
         use1 W (later (some (λ (c : Cursor). ((‵ (flft κ q) ⊛ ‵ ftrue) ⊛ ‵ (K.the-row .own c (w₂ ∷ []))) ⊛ raw
         (ensured 𝓤 H A next-row.ended (next-row.clauses 𝓤 H A mem run) (κ, tt) (s, (scan, (t .at, tt))) tt c))))
         (id⊢ 𝓤 _) $ await ! tt $ pick ! (λ c.
@@ -334,14 +318,14 @@ module _ {M : Type 1} (𝓤 : URA M) (H : Heap 𝓤) (A : Atoms 𝓤) (W : Given
         use1 W (raw (fact 𝓤 (Advanced scan (s .now) (t .at) c))) (next-of 𝓤 H A mem run κ s scan (t .at) c) $
         heard ! (Advanced scan (s .now) (t .at) c) (λ adv. split ! $ move ! (1 ∷ []) $
         peeks ! K.the-row (Is K.the-row) (shows 𝓤 H A K.the-row) c (w₂ ∷ []) (λ isc.
-        land-last ! (from ! (stop !)) (store ! 18 refl (LL.lawful K.the-type K′.the-laws 𝓤 H A W .typed c _ isc .0)) $
-        -- [the cursor; the token; the words; …; the questions; their token; …; …; _9; …; _0; …]
-        drop ! $ split ! $ forget ! 8 refl $ forget ! 10 refl $ forget ! 12 refl $ forget ! 14 refl $ forget ! 16 refl $
-        rewrite ! 18 (λ (y : Val). ‵ (fat fullShare K′.mir l₄ 0 y)) (cursor-val c w₂ isc) refl $
-        keep ! (8 ∷ 9 ∷ 10 ∷ 11 ∷ 12 ∷ 13 ∷ 14 ∷ 15 ∷ 16 ∷ 17 ∷ 18 ∷ 19 ∷ 20 ∷ 21 ∷ 22 ∷ 23 ∷ 24 ∷ 25 ∷ 26 ∷ 27 ∷ 2 ∷ 0
-        ∷ 4 ∷ 5 ∷ []) $
-        again ! Nearer At t (moved t z e (zs .0) e′ c w₂ isc adv)
-        (counting-less scan (s .now) (t .at) c adv)))))))))))))))))
+        land-last ! (from ! (stop !)) (store ! 17 refl (LL.lawful K.the-type K′.the-laws 𝓤 H A W .typed c _ isc .0)) $
+        -- [the cursor; the token; the words; the questions; their token; …; …; _9; …; _0; …]
+        drop ! $ split ! $ forget ! 7 refl $ forget ! 9 refl $ forget ! 11 refl $ forget ! 13 refl $ forget ! 15 refl $
+        rewrite ! 17 (λ (y : Val). ‵ (fat fullShare K′.mir l₄ 0 y)) (cursor-val c w₂ isc) refl $
+        keep ! (7 ∷ 8 ∷ 9 ∷ 10 ∷ 11 ∷ 12 ∷ 13 ∷ 14 ∷ 15 ∷ 16 ∷ 17 ∷ 18 ∷ 19 ∷ 20 ∷ 21 ∷ 22 ∷ 23 ∷ 24 ∷ 25 ∷ 26 ∷ 2 ∷ 0
+        ∷ 3 ∷ 4 ∷ []) $
+        again ! Nearer At t (moved t (zs .0) e c w₂ isc adv)
+        (counting-less scan (s .now) (t .at) c adv)))))))))))))
 
     -- the turn that leaves the loop, and the rest of the body
     leaves : (t : Turn) → t .at .found ≡ false → Sq W (At t) (runs C Λ En mir′.turn-1 (anyQ (Turned t)))
@@ -410,13 +394,12 @@ module _ {M : Type 1} (𝓤 : URA M) (H : Heap 𝓤) (A : Atoms 𝓤) (W : Given
         keep ! (7 ∷ 8 ∷ 9 ∷ 10 ∷ 11 ∷ 12 ∷ 13 ∷ 14 ∷ 15 ∷ 16 ∷ 17 ∷ 18 ∷ 19 ∷ 20 ∷ 21 ∷ 22 ∷ 23 ∷ 24 ∷ 25 ∷ 26 ∷ 2 ∷ 0
         ∷ 5 ∷ 3 ∷ []) $ by ! (looped (start c w isc st))))))
 
-  walk : (𝓣 : Tables 𝓤 H) → Triple 𝓤 (𝓣 .C #cursor·first) (First 𝓤 H A mem run) → Triple 𝓤 (𝓣 .C #cursor·row-at)
-      (RowAt 𝓤 H A mem run)
-      → Triple 𝓤 (𝓣 .C #questions·count-row) (CountRow 𝓤 H A mem run) → Triple 𝓤 (𝓣 .C #cursor·next)
-      (Next 𝓤 H A mem run)
+  walk : (𝓣 : Tables 𝓤 H) → Triple 𝓤 (𝓣 .C #cursor·first) (First 𝓤 H A mem run)
+      → Triple 𝓤 (𝓣 .C #questions·count-row) (CountRow 𝓤 H A mem run)
+      → Triple 𝓤 (𝓣 .C #cursor·next) (Next 𝓤 H A mem run)
       → ent 𝓤 (onEntry 𝓤 H A count-rows.signature (κ, (κ′, tt)) (q, (q′, tt)) a vals)
       (WpFn 𝓤 H (𝓣 .C) (𝓣 .Λ) written (v ∷ scv ∷ sv ∷ []) Post)
-  walk 𝓣 known-first known-row known-count known-next =
+  walk 𝓣 known-first known-count known-next =
       qed W ((‵ (flft κ q) ⊛ ‵ (flft κ′ q′) ⊛ ‵ ftrue)
       ∷ ‵ (owns (ShrSlice (named 0) κ u64 ∷ S.the-row ∷ MutSlice (named 1) κ′ Q.the-row ∷ []) a vals) ∷ []) ∵
       enter ! (𝓣 .C) (𝓣 .Λ) written (v ∷ scv ∷ sv ∷ []) _ $
@@ -427,11 +410,10 @@ module _ {M : Type 1} (𝓤 : URA M) (H : Heap 𝓤) (A : Atoms 𝓤) (W : Given
       pass1 ! (init ! 16 refl (shr-slice-lawful 𝓤 H A W (named 0) κ u64 .typed s (v ∷ []) iss .0)) $
       pass1 ! (init ! 14 refl (LL.lawful S.the-type S′.the-laws 𝓤 H A W .typed scan _ iscan .0)) $
       pass1 ! (init ! 12 refl (tt, (tt, (record { fits = room .0 }, tt)))) $ pass0 ! $
-      by ! (body 𝓣 known-first known-row known-count known-next l₀ l₁ l₂ l₃ l₄ l₅ l₆ l₇ l₈ l₉)))))))))))
+      by ! (body 𝓣 known-first known-count known-next l₀ l₁ l₂ l₃ l₄ l₅ l₆ l₇ l₈ l₉)))))))))))
 
 module _ {M : Type 1} (𝓤 : URA M) (H : Heap 𝓤) (A : Atoms 𝓤) (W : Given 𝓤 H A) (mem : Memory → SProp 𝓤)
     (run : Routine → Fun 𝓤) (𝓣 : Tables 𝓤 H) (known-first : Triple 𝓤 (𝓣 .C #cursor·first) (First 𝓤 H A mem run))
-    (known-row : Triple 𝓤 (𝓣 .C #cursor·row-at) (RowAt 𝓤 H A mem run))
     (known-count : Triple 𝓤 (𝓣 .C #questions·count-row) (CountRow 𝓤 H A mem run))
     (known-next : Triple 𝓤 (𝓣 .C #cursor·next) (Next 𝓤 H A mem run)) where
   count-rows-walks : Walks 𝓤 H A count-rows.ended stayed (WpFn 𝓤 H (𝓣 .C) (𝓣 .Λ) written)
@@ -448,7 +430,7 @@ module _ {M : Type 1} (𝓤 : URA M) (H : Heap 𝓤) (A : Atoms 𝓤) (W : Given
       (λ h.
       walk 𝓤 H A W mem run (κs .0) (κs .1 .0) (qs .0) (qs .1 .0) (a .0) (a .1 .0) (a .1 .1 .0 .ptr .0)
       (a .1 .1 .0 .ptr .1) (a .1 .1 .0 .name) (a .1 .1 .0 .now) (are .1 .0) (are .1 .1 .0 .0 .1) (are .0) (h .0)
-      (h .1) 𝓣 known-first known-row known-count known-next))
+      (h .1) 𝓣 known-first known-count known-next))
 
   written-meets : Meets 𝓤 H A count-rows.signature (WpFn 𝓤 H (𝓣 .C) (𝓣 .Λ) written) (count-rows.spec 𝓤 H A mem run)
   written-meets =
@@ -476,8 +458,6 @@ count-rows-spec 𝓤 H 𝓜 𝓖 𝓡 =
     (cited 𝓤 H (First 𝓤 H (𝓖 .A) (𝓜 .mem)
     (𝓡 .run)) 𝓜 𝓡 code.env #cursor·first first-row-def.routine code.calls-cursor·first
     (first-row-thm.met 𝓤 H 𝓜 𝓖 𝓡))
-    (cited 𝓤 H (RowAt 𝓤 H (𝓖 .A) (𝓜 .mem)
-    (𝓡 .run)) 𝓜 𝓡 code.env #cursor·row-at row-at-def.routine code.calls-cursor·row-at (row-at-thm.met 𝓤 H 𝓜 𝓖 𝓡))
     (cited 𝓤 H (CountRow 𝓤 H (𝓖 .A) (𝓜 .mem)
     (𝓡 .run)) 𝓜 𝓡 code.env #questions·count-row count-row-def.routine code.calls-questions·count-row
     (count-row-thm.met 𝓤 H 𝓜 𝓖 𝓡))
