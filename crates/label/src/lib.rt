@@ -5,6 +5,8 @@
 // Every function takes any number and any bytes. Cost: a few operations for each letter, at most eight letters. The
 // definitions that the promises cite are in specs/: Label, Weights. Their laws and the theorems about them are in
 // proofs/: Labels, Fields, Weights.
+#![tactic(auto)]
+
 ghost use Rattle.std.specs.Prelude.{true, ◌≡◌, ◌∷◌, take};
 ghost use Rattle.label.specs.Label.{rank, capital, number_or_none, LabelRead, LettersWritten};
 ghost use Rattle.label.specs.Weights.{right_weights};

@@ -1,1 +1,3 @@
+#![tactic(auto)]
+
 // Laws of plain lists; no code. The definitions are in specs/, their laws in proofs/.

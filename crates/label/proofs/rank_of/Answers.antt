@@ -1,0 +1,17 @@
+-- `label::rank_of` meets its contract.
+-- Assumes nothing.
+use borrow.Author.Tests.{le-leb, lt-leb}
+use Rattle.label.specs.Label.{rank}
+use Rattle.label.proofs.rank_of.Goals as goal
+
+pub returns-then-b-lt65 : goal.returns-then-b-lt65
+unfolding rank
+returns-then-b-lt65 c = simp (lt-leb _ _ c.if-b-lt65.true)
+
+pub returns-then-b-gt90 : goal.returns-then-b-gt90
+unfolding rank
+returns-then-b-gt90 c = simp (le-leb _ _ c.if-b-lt65.false, lt-leb _ _ c.if-b-gt90.true)
+
+pub returns : goal.returns
+unfolding rank
+returns c = simp (le-leb _ _ c.if-b-lt65.false, le-leb _ _ c.if-b-gt90.false, c.wide.ensures)
