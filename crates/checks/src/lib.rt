@@ -11,7 +11,7 @@ use interval::tuple::Tuple;
 use plan::{PartitionIndex, Partitioning};
 
 // What a call answers: the refusal number (0: accepted) and two counts.
-#[derive(Drop)]
+#[derive(Clone, Copy)]
 pub struct Answer {
     pub number: u64,
     pub changed: u64,

@@ -15,7 +15,7 @@ use plan::PartitionIndex;
 
 // What is read: a store of `count` partitions of `room` words each, from a partition up, and of its rows those that
 // have a chronon in common with the window.
-#[derive(Drop)]
+#[derive(Clone, Copy)]
 pub struct Scan {
     pub room: usize,
     pub count: u64,
@@ -25,7 +25,7 @@ pub struct Scan {
 
 // A place in what is read: whether there is a row, its partition and its place there, counted from 0, and the row, as
 // it was read; with no row, a row of zeros.
-#[derive(Drop)]
+#[derive(Clone, Copy)]
 pub struct Cursor {
     pub found: bool,
     pub partition: PartitionIndex,

@@ -3,5 +3,7 @@
 //
 // Every function takes any 64-bit words, and none has a `requires`. The definitions that the promises cite are in
 // specs/: Time, Tuple. Their laws and the theorems about them are in proofs/: Overlap, Tuples.
+#![tactic(auto)]
+
 pub mod time;
 pub mod tuple;

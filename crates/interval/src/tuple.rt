@@ -17,7 +17,7 @@ pub const TUPLE_WIDTH: usize = 4;
 pub const ROW_WIDTH: usize = 5;
 
 // A tuple of document 01: a drawing or a spot (002: a tuple of the outer or the inner relation).
-#[derive(Drop)]
+#[derive(Clone, Copy)]
 pub struct Tuple {
     pub label: u64,
     pub item: u64,
@@ -25,7 +25,7 @@ pub struct Tuple {
 }
 
 // A row of document 01: a drawing on a spot, while both run.
-#[derive(Drop)]
+#[derive(Clone, Copy)]
 pub struct Row {
     pub label: u64,
     pub outer: u64,

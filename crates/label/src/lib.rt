@@ -27,14 +27,14 @@ const WEIGHTS: [u64; 8] = [
 ];
 
 // A label field that was read: the label's number, or that the field is no label.
-#[derive(Drop)]
+#[derive(Clone, Copy)]
 pub enum LabelField {
     Number(u64),
     Malformed,
 }
 
 // The letters of a label: the first `count` bytes; the others are 0.
-#[derive(Drop)]
+#[derive(Clone, Copy)]
 pub struct Letters {
     pub bytes: [u8; 8],
     pub count: u64,

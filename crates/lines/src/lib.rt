@@ -25,7 +25,7 @@ const MOST_DIGITS: usize = 8;
 pub const MALFORMED: u64 = 15;
 
 // The four words of a change: which side, in or out.
-#[derive(Drop)]
+#[derive(Clone, Copy)]
 pub enum Word {
     DrawIn,
     DrawOut,
@@ -35,7 +35,7 @@ pub enum Word {
 
 // What a line says: a lane's last minute, the fewest minutes of a row, or a change's word with its tuple; or that it is
 // not of the form (15).
-#[derive(Drop)]
+#[derive(Clone, Copy)]
 pub enum Line {
     Lane(Chronon),
     Least(u64),
@@ -44,7 +44,7 @@ pub enum Line {
 }
 
 // A number field that was read: its value, or that the field is no number.
-#[derive(Drop)]
+#[derive(Clone, Copy)]
 pub enum NumberField {
     Value(u64),
     Malformed,

@@ -22,12 +22,12 @@ pub const PLACES: usize = MOST_PARTITIONS as usize;
 
 // A lane number of document 01, counted from 0. It is no Chronon: one handed over where the other belongs does not
 // compile.
-#[derive(Drop)]
+#[derive(Clone, Copy)]
 pub struct PartitionIndex(pub u64);
 
 // A plan of document 01: the lane count, the last minute of each lane, the tuple capacity and the row capacity of a
 // lane, and the fewest minutes that a row may last.
-#[derive(Drop)]
+#[derive(Clone, Copy)]
 pub struct Partitioning {
     pub count: u64,
     pub lasts: [Chronon; PLACES],

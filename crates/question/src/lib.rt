@@ -15,7 +15,7 @@ use plan::Partitioning;
 
 // A question of document 02: how many rows have that label and contain that minute, and the place for the answer. Label
 // and minute are any words.
-#[derive(Drop)]
+#[derive(Clone, Copy)]
 pub struct Question {
     pub label: u64,
     pub minute: Chronon,

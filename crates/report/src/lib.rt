@@ -21,7 +21,7 @@ pub const HEAD_BYTES: usize = 16;
 pub const ROW_BYTES: usize = 48;
 
 // What `write` answers: the refusal number (0: accepted) and the length of the text.
-#[derive(Drop)]
+#[derive(Clone, Copy)]
 pub struct Reported {
     pub number: u64,
     pub bytes: usize,

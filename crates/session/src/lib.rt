@@ -18,7 +18,7 @@ use rows::Side;
 use session_plan::{OUT_OF_TURN, Session};
 
 // What a line gets: the session after it, and its number (0: accepted).
-#[derive(Drop)]
+#[derive(Clone, Copy)]
 pub struct Stepped {
     pub session: Session,
     pub number: u64,

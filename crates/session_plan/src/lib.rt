@@ -40,7 +40,7 @@ const FIRST_MINIMUM: u64 = 1;
 
 // The lane lines taken so far, the last minute of each, the fewest minutes of a row, and whether the last lane line
 // completed the plan.
-#[derive(Drop)]
+#[derive(Clone, Copy)]
 pub struct Session {
     pub lanes: u64,
     pub lasts: [Chronon; PLACES],

@@ -16,7 +16,7 @@ use plan::Partitioning;
 
 // What the records of a store are: said where the plan is known, so that what a plan asks of a record can go with it,
 // the minutes of a row.
-#[derive(Drop)]
+#[derive(Clone, Copy)]
 enum Records {
     Tuples,
     Rows(u64),

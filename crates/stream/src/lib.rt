@@ -28,7 +28,7 @@ pub const FINISH_BYTES: usize = REFUSAL_BYTES
     + ROW_BYTES * (PARTITIONS * ROWS) as usize;
 
 // What was read: the session after the finished lines, how many they are, and the first bytes of the next one.
-#[derive(Drop)]
+#[derive(Clone, Copy)]
 pub struct Reading {
     pub session: Session,
     pub lines: u64,
@@ -37,7 +37,7 @@ pub struct Reading {
 }
 
 // What a part gets: the refusal number (0: taken), the reading after it, and how many bytes of text there are.
-#[derive(Drop)]
+#[derive(Clone, Copy)]
 pub struct Taken {
     pub number: u64,
     pub reading: Reading,

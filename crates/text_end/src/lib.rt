@@ -12,7 +12,7 @@ use session_plan::Session;
 use text_buffer::put_bytes;
 
 // What the end of the input gets: the refusal number (0: accepted) and how many bytes of text there are.
-#[derive(Drop)]
+#[derive(Clone, Copy)]
 pub struct Finished {
     pub number: u64,
     pub bytes: usize,
