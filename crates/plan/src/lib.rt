@@ -1,5 +1,7 @@
 // Partitionings (document 01: plans), by value: their own checks 1 to 3 and 18, the partition of a chronon, a plan with
 // new cuts. Cost: at most a comparison for each place of a plan.
+#![tactic(auto)]
+
 ghost use Rattle.std.specs.Prelude.{◌≡◌, take};
 ghost use Rattle.plan.specs.Plan.{numbers, cover, minimum_check, plan_number, home, with_cuts};
 
