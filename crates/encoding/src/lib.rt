@@ -1,6 +1,8 @@
 // Tuples and rows on words, read and written: the definitions are in the crate `interval`, specs/Tuple. No other code
 // knows where a word of a tuple or of a row stands. Each function asks by its `requires` that the words are there.
 // Cost: a record's words.
+#![tactic(auto)]
+
 ghost use Rattle.std.specs.Prelude.{◌≡◌, ◌+◌, ◌≤◌, length};
 ghost use Rattle.std.proofs.lemmas.List.Edits.{sets};
 ghost use Rattle.lists.specs.Words.{part_at};
