@@ -1,6 +1,8 @@
 // What is written to one partition (document 01: lane), which is lent as its own part of a store: a record appended,
 // two swapped, one taken out, every word set to 0. What moves whole records is given their width. Cost: a record's
 // words; of `clear`, the words lent. What is read of a part is in the crate `part`, and so are the definitions.
+#![tactic(auto)]
+
 ghost use Rattle.std.specs.Prelude.{◌≡◌, ◌+◌, ◌≤◌, ◌<◌, length, replicate};
 ghost use Rattle.interval.specs.Tuple.{tuple_width, tuple_words, row_width, row_words};
 ghost use Rattle.part.specs.Part.{room_of, counted, appended, copied, swapped, removed};

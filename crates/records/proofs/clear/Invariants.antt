@@ -1,0 +1,12 @@
+-- `records::clear` meets its contract. The loop's invariant is `Cleared`: the words before place i are 0, the
+-- others as they were. The measure is how many are left. Assumes nothing.
+use Prim.Native.Nat.{◌-◌}
+use lib.ListN.{length}
+use Rattle.records.proofs.Clearing.{Cleared}
+use Rattle.records.proofs.clear.Given as goal
+
+abbrev pub invariant-loop-i : goal.invariant-loop-i
+invariant-loop-i l = Cleared l.initial.words l.i l.words
+
+abbrev pub decreases-loop-i : goal.decreases-loop-i
+decreases-loop-i l = length l.initial.words - l.i
