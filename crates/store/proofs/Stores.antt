@@ -3,21 +3,20 @@
 -- The laws that do not speak of tuples or rows are stated once, over the partitions' room and number; so is what is
 -- said of tuple stores and of rows stores alike, over what specs/Store names for each (`SoundAt` and the like).
 -- Assumes nothing.
-use mathlib.Core.Bool.{Bool, true, false, ◌&&◌}
-use mathlib.Core.List.{List, [], ◌∷◌, ◌++◌, map}
-use mathlib.Core.Logic.{◌⊎◌, ⊎_elim}
+use mathlib.Core.Bool.{Bool, true, ◌&&◌}
+use mathlib.Core.List.{List, [], ◌∷◌, ◌++◌}
+use mathlib.Core.Logic.{⊎_elim}
 use mathlib.Core.Path.{◌≡◌, refl, sym, ◌∙◌, ap}
-use Prim.Native.Nat.{ℕ, ◌+◌, ◌-◌, ◌*◌, ◌≤◌, ◌<◌}
+use Prim.Native.Nat.{ℕ, ◌+◌, ◌*◌, ◌≤◌, ◌<◌}
 use native.Mathlib.Omega.{arith}
 use lib.ListN.{length, replicate, take, drop}
 use lib.Seq.{drop_at, length-take-le}
 use lib.Dec.{eqb}
 use borrow.Author.Tests.{eqb-true, eqb-false, ne_eqb}
 use borrow.Rule.Slice.PartMut.{take_put}
-use Rattle.lists.specs.Members.{all, keep, gather, tally, total, below}
+use Rattle.lists.specs.Members.{all, keep, gather, tally, below}
 use Rattle.lists.specs.Choice.{pick}
 use Rattle.lists.specs.Same.{Same}
-use Rattle.lists.specs.Words.{on_part}
 use Rattle.lists.proofs.Choice.{bool_cases, and_left, and_right}
 use Rattle.lists.proofs.Members.{all_map, all-imply, keep_all}
 use Rattle.lists.proofs.Gather.{keep-gather, gather-nil, tally-gather, all-gather}
@@ -26,8 +25,6 @@ use Rattle.lists.proofs.Below.{all-below, below_all, gather-one, gather-cong-bel
 use Rattle.lists.proofs.Parts.{start-within, length_part, length-put, part-put, part-put-other, part-replicate}
 use Rattle.interval.specs.Tuple.{to, legal_tuple}
 use Rattle.interval.specs.Tuple.{row_to, legal_row}
-use Rattle.interval.specs.declared.tuple.Tuple.{Tuple}
-use Rattle.interval.specs.declared.tuple.Row.{Row}
 use Rattle.plan.specs.Plan.{home}
 use Rattle.part.specs.Part.{room_of, records_in, tuples_in, rows_in, sound_part}
 use Rattle.store.specs.Store.{tuple_room, row_room, partition_at, on_partition, tuple_part}

@@ -1,5 +1,7 @@
 // Stores: their lengths (check 4), and their partitions, each handed on as its own part.
 // What a sound store is stands here too, in specs/Store.antt; crate soundness tests it.
+#![tactic(auto)]
+
 ghost use Rattle.std.specs.Prelude.{◌≡◌, ◌+◌, ◌*◌, ◌≤◌, ◌<◌, length};
 ghost use Rattle.interval.specs.Tuple.{tuple_width, tuple_words, row_width, row_words};
 ghost use Rattle.plan.specs.Plan.{plan_number};
