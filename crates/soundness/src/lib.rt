@@ -2,6 +2,8 @@
 // specs/Store.antt.
 // Each word is read once: two comparisons say that a record belongs to its partition, and eight words of a tail are
 // tested for 0 at a time.
+#![tactic(auto)]
+
 ghost use Rattle.std.specs.Prelude.{true, ◌≡◌, ◌+◌, ◌≤◌, eqb, length, drop};
 ghost use Rattle.lists.specs.Members.{all};
 ghost use Rattle.lists.specs.Words.{part_at, zeros, records_of, record_at};
