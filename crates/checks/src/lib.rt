@@ -1,5 +1,7 @@
 // The checks of plan, stores and tuple, 1 to 8 and 17: those of one store by themselves, and all in the table's order
 // over the three stores; and what a call answers. The definitions are in specs/Stores.
+#![tactic(auto)]
+
 ghost use Rattle.std.specs.Prelude.{true, ◌≡◌, length};
 ghost use Rattle.plan.specs.Plan.{plan_number};
 ghost use Rattle.store.specs.Store.{fits_tuples, fits_rows};

@@ -1,0 +1,13 @@
+-- `checks::tuples_length` meets its contract: check 4 of a tuple store.
+-- Assumes nothing.
+use Rattle.checks.specs.Stores.{tuples_length}
+use Rattle.checks.proofs.Checks.{check-none, check-met}
+use Rattle.checks.proofs.tuples_length.Goals as goal
+
+pub returns-then-fits_tuples : goal.returns-then-fits_tuples
+unfolding tuples_length
+returns-then-fits_tuples c = check-none 4 c.fits_tuples.ensures c.if-fits_tuples.true
+
+pub returns-else-fits_tuples : goal.returns-else-fits_tuples
+unfolding tuples_length
+returns-else-fits_tuples c = check-met 4 c.fits_tuples.ensures c.if-fits_tuples.false
