@@ -21,7 +21,8 @@ module _ (cs : List ℕ) (m : ℕ) where
   between-all h l = record { covered = h; within = omega arith; from = omega arith; upto = omega arith }
 
   -- the chronon is past the cut in the middle; it is not
-  pub between-above : (low high i : ℕ) → i < high → get_or cs i 0 < m → Between cs m low high → Between cs m (i + 1) high
+  pub between-above : (low high i : ℕ) → i < high → get_or cs i 0 < m → Between cs m low high
+      → Between cs m (i + 1) high
   between-above low high i b g s = record {
     covered = s.covered;
     within = s.within;

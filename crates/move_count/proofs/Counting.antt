@@ -7,7 +7,7 @@ use mathlib.Core.Bool.{true, false}
 use mathlib.Core.List.{List, [], ◌++◌}
 use mathlib.Core.Logic.{⊎_elim}
 use mathlib.Core.Path.{◌≡◌, refl, sym, ◌∙◌, ap}
-use Prim.Native.Nat.{ℕ, zero, suc, ◌+◌, ◌-◌, ◌*◌, ◌^◌, ◌≤◌, ◌<◌}
+use Prim.Native.Nat.{ℕ, zero, suc, ◌+◌, ◌*◌, ◌^◌, ◌≤◌, ◌<◌}
 use native.Mathlib.Numerals.{add-one}
 use native.Mathlib.Omega.{arith}
 use lib.Dec.{eqb}
@@ -15,7 +15,7 @@ use lib.ListN.{length, get_or, drop, set, length-set, length-append}
 use lib.Seq.{get_or-set_same, get_or-set_other}
 use borrow.Author.Tests.{ltb-true, eqb-true, eqb-false}
 use Rattle.lists.specs.Choice.{pick}
-use Rattle.lists.specs.Members.{gather, below}
+use Rattle.lists.specs.Members.{below}
 use Rattle.lists.proofs.Choice.{bool_cases}
 use Rattle.lists.proofs.Members.{all-get_or}
 use Rattle.lists.proofs.Tally.{tally-le, tally-append, tally-end, tally-next}
@@ -42,7 +42,8 @@ module _ (w : ℕ) (cuts : List ℕ) where
   unfolding held_at
   held-most rs i = tally-le _ rs
 
-  held-append : (rs ss : List (List ℕ)) (i : ℕ) → held_at w cuts (rs ++ ss) i ≡ held_at w cuts rs i + held_at w cuts ss i
+  held-append : (rs ss : List (List ℕ)) (i : ℕ)
+      → held_at w cuts (rs ++ ss) i ≡ held_at w cuts rs i + held_at w cuts ss i
   unfolding held_at
   held-append rs ss i = tally-append _ rs ss
 

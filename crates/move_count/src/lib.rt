@@ -1,6 +1,8 @@
 // Checks 9 and 10 of a repartition, for one store: whether its records, tuples or rows by their width, fit the
 // partitions (document 01: lanes) of another plan. Each record is counted at its home, found by bisecting the cuts, in
 // one pass over the store; the counts are 64 words by value. Cost: at most six comparisons for each record.
+#![tactic(auto)]
+
 ghost use Rattle.std.specs.Prelude.{true, ◌≡◌, ◌≤◌, ◌<◌, ltb, length, take};
 ghost use Rattle.lists.specs.Members.{any};
 ghost use Rattle.plan.specs.Plan.{plan_number, cover, cuts_of, home_of};

@@ -7,7 +7,7 @@
 use mathlib.Core.Bool.{Bool, true, false}
 use mathlib.Core.List.{List, [], ◌∷◌, ◌++◌, map}
 use mathlib.Core.Path.{◌≡◌, refl}
-use Prim.Native.Nat.{ℕ, ◌-◌}
+use Prim.Native.Nat.{ℕ}
 use lib.ListN.{replicate}
 use Rattle.lists.specs.Choice.{first_of}
 use Rattle.label.specs.Label.{label_check}
@@ -87,8 +87,8 @@ rows-sound =
     sound_rows (lasting 5 34 40) rows ∷ (sound_rows (lasting 5 39 47) rows ∷ (sound_rows (lasting 6 39 47) rows ∷ []))
 
 minimum-kept : rows-sound ≡ true ∷ (true ∷ (false ∷ []))
-unfolding first_of label_check item_check valid_check row_number durability durable legal_row cuts_of home_of home counted
-    records_in sound_part row_at_home sound_row_part sound_rows
+unfolding first_of label_check item_check valid_check row_number durability durable legal_row cuts_of home_of home
+    counted records_in sound_part row_at_home sound_row_part sound_rows
 minimum-kept = refl
 
 -- ---- the numbers: none; 9 by the drawings; 9 by the same tuples as spots; 10 by the rows, with a minimum of 1 and of
@@ -105,6 +105,6 @@ numbers =
     ∷ [])))))
 
 numbers-hold : numbers ≡ 0 ∷ (9 ∷ (9 ∷ (10 ∷ (10 ∷ (9 ∷ [])))))
-unfolding move_number first_of tuples_overfull tuples_at stored_tuples tuples_in rows_overfull rows_at stored_rows rows_in
-    records_in counted home home_of cuts_of
+unfolding move_number first_of tuples_overfull tuples_at stored_tuples tuples_in rows_overfull rows_at stored_rows
+    rows_in records_in counted home home_of cuts_of
 numbers-hold = refl

@@ -9,8 +9,8 @@ use native.Mathlib.Omega.{arith}
 use lib.Dec.{ltb}
 use lib.ListN.{length}
 use Rattle.lists.specs.Members.{any, below}
-use Rattle.interval.specs.Tuple.{tuple_width, tuple_of, to, legal_tuple, same_tuple, row_width, row_of, row_to, legal_row}
-use Rattle.interval.specs.Tuple.{same_row}
+use Rattle.interval.specs.Tuple.{tuple_width, tuple_of, to, legal_tuple, same_tuple}
+use Rattle.interval.specs.Tuple.{row_width, row_of, row_to, legal_row, same_row}
 use Rattle.interval.proofs.Tuples.{legal-tuple, legal-row, valid-ok}
 use Rattle.interval.specs.declared.tuple.Tuple.{Tuple}
 use Rattle.interval.specs.declared.tuple.Row.{Row}

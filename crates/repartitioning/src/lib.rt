@@ -2,6 +2,8 @@
 // and capacities: whether its records fit there (checks 9 and 10), and their move, which then cannot fail. The three
 // stores' numbers in their order. Nothing is written before all is counted. The work is in the crates `move_count` and
 // `rehoming`, by a record's width; the call is in the crate join.
+#![tactic(auto)]
+
 ghost use Rattle.std.specs.Prelude.{false, ◌≡◌};
 ghost use Rattle.checks.specs.Stores.{stores, store_number};
 ghost use Rattle.repartitioning.specs.Moving.{tuples_overfull, rows_overfull, move_number, TuplesMoved, RowsMoved};
