@@ -1,6 +1,6 @@
 /*
  * Ruthgarwy: a valid-time join that is kept current, as a static library. The library is the crate `exports`, built
- * by `rt staticlib exports` as target/staticlib/libexports.a, for x86-64 Linux; of the C library it needs memcpy
+ * by `tests/library.sh` as target/staticlib/libexports.a, for x86-64 Linux; of the C library it needs memcpy
  * and memset only.
  *
  * A wall is three lent buffers of 64-bit words, the stores: store 1 holds drawings (outer), store 2 spots (inner),

@@ -1,8 +1,8 @@
 # Shows that the test programs join_cases, interval_cases and question_cases and the tests of the program wall can fail.
-# The sources of a program and of the crates it uses are taken as Rust: the ghost lines and the promises go, declared
-# types become Copy, check, io, os and libc become a few lines over the C library. The unchanged build must pass: the
-# test programs write what their file stdout says, and wall is content for tests/wall_failures.py and some sessions of
-# tests/wall_sessions.py. Then each wrong edit below is built by itself, and must not pass, stop with an error or not
+# The sources of a program and of the crates it uses are taken as Rust: the ghost lines, the promises and the tactics
+# go, declared types become Copy, the host's handles and std::io become a few lines over Rust's std and the C library.
+# The unchanged build must pass: the test programs write what their file stdout says, and wall is content for
+# tests/wall_failures.py and some sessions of tests/wall_sessions.py. Then each wrong edit below is built by itself, and must not pass, stop with an error or not
 # end. Prints 'mutants: N caught, 0 missed'; exit 1 if one is missed, 2 if the test could not be made. Needs python3 and
 # rustc, works from any folder and leaves nothing behind. It says nothing of the proofs.
 from concurrent.futures import ThreadPoolExecutor
@@ -936,21 +936,21 @@ WALL = [
     ('wall/main.rt', 'REFUSAL_BYTES * PART_BYTES + FINISH_BYTES', 'REFUSAL_BYTES * 81'),
     ('session_plan/lib.rt', 'PARTITIONS as usize * ROW_ROOM', 'PARTITIONS as usize * TUPLE_ROOM'),
     ('session_plan/lib.rt', 'PARTITIONS as usize * TUPLE_ROOM', '7 * TUPLE_ROOM'),
-    ('wall/channel.rt', 'if got < 0 {', 'if got < -1 {'),
-    ('wall/channel.rt', 'Moved::Failed(error) => error == EINTR,', 'Moved::Failed(error) => false,'),
-    ('wall/channel.rt', 'return Moved::Failed(os::errno());', 'return Moved::Failed(0);'),
+    ('wall/channel.rt', 'Err(error) => Moved::Failed(', 'Err(_) => Moved::Nothing,\n        Err(error) => Moved::Failed('),
+    ('wall/channel.rt', 'Moved::Failed(error) => error == INTERRUPTED,', 'Moved::Failed(error) => false,'),
+    ('wall/channel.rt', 'Moved::Failed(error.raw_os_error().unwrap_or(0))', 'Moved::Failed(0)'),
     # writing
-    ('wall/main.rt', 'if !channel::print(&text[..bytes]) {', 'if !channel::print(&text[..0]) {'),
-    ('wall/main.rt', '(&text[..bytes]) {\n            return;', '(&text[..bytes]) {'),
-    ('wall/main.rt', '    channel::print(&text[..bytes]);\n}', '    channel::print(&text[..0]);\n}'),
+    ('wall/main.rt', 'if !channel::print(stdout, stderr, &text[..bytes])', 'if !channel::print(stdout, stderr, &text[..0])'),
+    ('wall/main.rt', ', &text[..bytes]) {\n            return;', ', &text[..bytes]) {'),
+    ('wall/main.rt', '    channel::print(stdout, stderr, &text[..bytes]);\n}', '    channel::print(stdout, stderr, &text[..0]);\n}'),
     ('wall/channel.rt', 'Moved::Bytes(n) => from += n,', 'Moved::Bytes(n) => from = text.len(),'),
-    ('wall/channel.rt', 'write_some(fd, &text[from..])', 'write_some(fd, &text[0..])'),
+    ('wall/channel.rt', 'write_some(output, &text[from..])', 'write_some(output, &text[0..])'),
     ('wall/channel.rt', 'Moved::Nothing => return Written::Failed(0),', 'Moved::Nothing => return Written::All,'),
     ('wall/channel.rt', 'return Written::Failed(error),', 'return Written::All,'),
     # telling
-    ('wall/channel.rt', 'tell(b"wall: read: error ", error);', ''),
-    ('wall/channel.rt', 'tell(b"wall: write: error ", error);', 'tell(b"wall: read: error ", error);'),
-    ('wall/channel.rt', 'write_all(STDERR_FILENO, &line[..n]);', 'write_all(STDOUT_FILENO, &line[..n]);'),
+    ('wall/channel.rt', 'tell(stderr, b"wall: read: error ", error);', ''),
+    ('wall/channel.rt', 'b"wall: write: error "', 'b"wall: read: error "'),
+    ('wall/channel.rt', 'write_all(&mut stderr, &line[..n]);', 'write_all(&mut io::Stdout, &line[..n]);'),
     # what a `least` line does, and when
     ('lines/lib.rt', 'Line::Least(minutes)', 'Line::Least(minutes + 1)'),
     ('session/lib.rt', 'session: session_plan::with_minimum(s, minimum),', 'session: s,'),
@@ -1000,45 +1000,94 @@ WALL = [
     ('text_end/lib.rt', 'if kept == 0 {', 'if true {'),
 ]
 
+# What stands in for Rattle's: the macros that take a handle, before the crates' modules, and the handles and std::io.
+# Text goes through Rust's std; wall's handles are the C library's calls, with no buffer and no start of std's.
+MACROS = '''
+macro_rules! print {
+    ($rt:expr; $($text:tt)*) => { crate::io::Print::print_text(&$rt, format_args!($($text)*)) };
+}
+macro_rules! println {
+    ($rt:expr;) => { print!($rt; "\\n") };
+    ($rt:expr; $($text:tt)*) => { print!($rt; $($text)*).and_then(|_| print!($rt; "\\n")) };
+}
+'''
+
 STAND_INS = '''
-pub mod libc {
-    pub const STDIN_FILENO: i32 = 0;
-    pub const STDOUT_FILENO: i32 = 1;
-    pub const STDERR_FILENO: i32 = 2;
-    pub const EINTR: i32 = 4;
+pub mod io {
+    pub use std::io::{Error, ErrorKind, Read, Result, Write};
     mod c {
         extern "C" {
             pub fn read(fd: i32, bytes: *mut u8, n: usize) -> isize;
             pub fn write(fd: i32, bytes: *const u8, n: usize) -> isize;
         }
     }
-    pub fn read(fd: i32, bytes: &mut [u8]) -> isize {
-        unsafe { c::read(fd, bytes.as_mut_ptr(), bytes.len()) }
+    fn moved(got: isize) -> Result<usize> {
+        if got < 0 { Err(Error::last_os_error()) } else { Ok(got as usize) }
     }
-    pub fn write(fd: i32, bytes: &[u8]) -> isize {
-        unsafe { c::write(fd, bytes.as_ptr(), bytes.len()) }
+    #[derive(Clone, Copy)]
+    pub struct Stdin;
+    #[derive(Clone, Copy)]
+    pub struct Stdout;
+    #[derive(Clone, Copy)]
+    pub struct Stderr;
+    impl Read for Stdin {
+        fn read(&mut self, bytes: &mut [u8]) -> Result<usize> {
+            moved(unsafe { c::read(0, bytes.as_mut_ptr(), bytes.len()) })
+        }
     }
-}
-pub mod os {
-    pub fn errno() -> i32 {
-        std::io::Error::last_os_error().raw_os_error().unwrap_or(0)
+    impl Write for Stdout {
+        fn write(&mut self, bytes: &[u8]) -> Result<usize> {
+            moved(unsafe { c::write(1, bytes.as_ptr(), bytes.len()) })
+        }
+        fn flush(&mut self) -> Result<()> {
+            Ok(())
+        }
     }
-}
-pub mod check {
-    pub fn same(a: &[u8], b: &[u8]) -> bool {
-        a == b
+    impl Write for Stderr {
+        fn write(&mut self, bytes: &[u8]) -> Result<usize> {
+            moved(unsafe { c::write(2, bytes.as_ptr(), bytes.len()) })
+        }
+        fn flush(&mut self) -> Result<()> {
+            Ok(())
+        }
     }
-}
-pub mod io {
-    use std::io::Write;
-    pub fn write_all(_: i32, text: &[u8]) -> bool {
-        std::io::stdout().write_all(text).is_ok()
+    pub struct HostRuntime;
+    impl HostRuntime {
+        pub fn stdin(&self) -> Stdin {
+            Stdin
+        }
+        pub fn stdout(&self) -> Stdout {
+            Stdout
+        }
+        pub fn stderr(&self) -> Stderr {
+            Stderr
+        }
     }
-    pub fn print_decimal(fd: i32, n: u64) -> bool {
-        write_all(fd, n.to_string().as_bytes())
+    pub trait Print {
+        fn print_text(&self, text: std::fmt::Arguments) -> Result<()>;
     }
-    pub fn count(got: isize, bytes: &[u8]) -> usize {
-        std::cmp::min(std::cmp::max(got, 0) as usize, bytes.len())
+    impl Print for HostRuntime {
+        fn print_text(&self, text: std::fmt::Arguments) -> Result<()> {
+            std::io::stdout().write_fmt(text)
+        }
+    }
+    impl<P: Print> Print for &P {
+        fn print_text(&self, text: std::fmt::Arguments) -> Result<()> {
+            (**self).print_text(text)
+        }
+    }
+    pub trait Ends {
+        fn status(self) -> i32;
+    }
+    impl Ends for () {
+        fn status(self) -> i32 {
+            0
+        }
+    }
+    impl<E> Ends for std::result::Result<(), E> {
+        fn status(self) -> i32 {
+            self.is_err() as i32
+        }
     }
 }
 '''
@@ -1061,14 +1110,41 @@ def crates(program):
             left += uses[crate]
     return found
 
+# Where the bracket closes that opens at this place.
+def closed(text, at):
+    pairs = {'{': '}', '[': ']'}
+    opens, closes = text[at], pairs[text[at]]
+    depth = 0
+    for i in range(at, len(text)):
+        depth += (text[i] == opens) - (text[i] == closes)
+        if not depth:
+            return i
+    fail(f'a bracket does not close: {text[at:at + 60]}')
+
+# The text without what begins so, up to the bracket that closes, and without the line's end.
+def without(text, begin):
+    kept = ''
+    while found := re.search(begin, text):
+        kept += text[:found.start()]
+        text = text[closed(text, found.end() - 1) + 1:].removeprefix('\n')
+    return kept + text
+
+# A type's derives: all types are Copy, and Rattle's Drop is no derive of Rust.
+def derives(found):
+    words = [w for w in re.findall(r'\w+', found[1] or '') if w not in ('Drop', 'Clone', 'Copy')]
+    return f'#[derive({", ".join(["Clone", "Copy", *words])})]\n{found[2]}'
+
 # One file as Rust, a module of the one crate that all become.
 def as_rust(text, crate, names):
-    text = re.sub(r'(?m)^\s*ghost use\b.*\n', '', text)
-    text = re.sub(r'(?m)^\s*(requires|ensures)\b[^⌝]*⌝ \}\n', '', text)
-    text = re.sub(r'(?m)^((pub(\(crate\))? )?(struct|enum) )', r'#[derive(Clone, Copy)]\n\1', text)
+    text = re.sub(r'(?m)^\s*ghost use\b[^;]*;\n', '', text)
+    text = without(text, r'(?m)^[ \t]*#!?\[(?=tactic\b)')
+    text = without(text, r'(?m)^[ \t]+(?:requires|ensures)\*?(?: \w+)? \{')
+    text = re.sub(r'(?m)^(?:#\[derive\(([\w, ]*)\)\]\n)?((?:pub(?:\(crate\))? )?(?:struct|enum) )', derives, text)
     text = re.sub(r'\bcrate::', f'crate::{crate}::', text)
     text = re.sub(r'(?<![\w:])(' + '|'.join(names) + r')::', r'crate::\1::', text)
-    return re.sub(r'(?m)^fn main\(\)', 'pub fn main()', text)
+    text = re.sub(r'(?<![\w:])std::io\b', 'crate::io', text)
+    text = re.sub(r'(?m)^fn main\(', 'pub fn main(', text)
+    return f'use crate::io::{{HostRuntime, Print}};\n{text}'
 
 # All files as Rust, by their paths. There is no start of std's, so that signals are as a program in C has them.
 def sources(program, edit=None):
@@ -1083,10 +1159,11 @@ def sources(program, edit=None):
                     fail(f'{at} has {text.count(edit[1])} times: {edit[1]}')
                 text = text.replace(edit[1], edit[2])
             name = 'mod' if path.stem in ('lib', 'main') else path.stem
-            files[f'{crate}/{name}.rs'] = as_rust(text, crate, names + ['check', 'io', 'os', 'libc'])
+            files[f'{crate}/{name}.rs'] = as_rust(text, crate, names)
     mods = ''.join(f'pub mod {crate};\n' for crate in names)
-    start = f'#[no_mangle]\npub extern "C" fn main() -> i32 {{\n    {program}::main();\n    0\n}}\n'
-    files['main.rs'] = f'#![allow(warnings)]\n#![no_main]\n{mods}{STAND_INS}\n{start}'
+    start = (f'#[no_mangle]\npub extern "C" fn main() -> i32 {{\n'
+             f'    io::Ends::status({program}::main(io::HostRuntime))\n}}\n')
+    files['main.rs'] = f'#![allow(warnings)]\n#![no_main]\n{MACROS}{mods}{STAND_INS}\n{start}'
     return files
 
 # Builds the program with that edit in a folder of its own; answers its path.

@@ -38,7 +38,7 @@ for token in re.findall(r'`([^`\n]+)`', text):
         whole = path.read_text(encoding='utf-8')
         for name in with_names[2].split(', '):
             cited += 1
-            if not re.search(r'(?<![\w′-])' + re.escape(name) + r'(?![\w′-])', whole):
+            if not re.search(r"(?<![\w'-])" + re.escape(name) + r"(?![\w'-])", whole):
                 missing(f'{with_names[1]}: {name}')
     elif re.fullmatch(r'[\w.-]+(?:/[\w.-]+)+', token) and not token.startswith(('proofs/', 'must-fail/')):
         cited += 1

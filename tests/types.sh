@@ -1,11 +1,11 @@
 #!/bin/bash
 # The types keep lane numbers and minutes apart (document 01: "A lane number handed over where a minute belongs is turned
 # down by the compiler"). For each crate with such a parameter there is a call of each kind below: a minute where a minute
-# belongs (CHRONON) and a lane number where one belongs (INDEX). The crate `right_types` has all of these calls and must
+# belongs (CHRONON) and a lane number where one belongs (INDEX). The program `right_types` has all of these calls and must
 # compile; in `wrong_types` each minute is handed over as a lane number and each lane number as a minute, and the compiler
-# must turn down every one, by a type error in its line. No prover is asked about the two crates.
+# must turn down every one, by a type error in its line. No prover is asked about the two programs.
 # Prints 'types: ok, N calls' and exits 0; else says what was wrong and exits 1. Works from any folder and leaves nothing
-# behind.
+# behind. Needs rt.
 set -eu
 
 root=$(cd "$(dirname "${BASH_SOURCE[0]}")/.." && pwd -P)
@@ -37,24 +37,16 @@ layout::put_lasts([CHRONON; 64], more);
 lines::Line::Lane(CHRONON);
 CALLS
 
-# a repository of the crates, with what is proved already, if it is: rt proves a crate again whose files are not the same
+# a repository of the crates' sources alone: a try reads no more of them
 cp "$root/crates.txt" "$room/crates.txt"
-mkdir -p "$room/crates" "$room/target/rlib" "$room/target/stamp"
 for crate in "$root"/crates/*; do
-    name=${crate##*/}
-    mkdir "$room/crates/$name"
-    for part in src specs proofs; do
-        [ ! -d "$crate/$part" ] || cp -R "$crate/$part" "$room/crates/$name/$part"
-    done
-    if [ -d "$root/target/rlib/$name.rlib" ] && [ -f "$root/target/stamp/$name" ]; then
-        cp -R "$root/target/rlib/$name.rlib" "$room/target/rlib/"
-        cp "$root/target/stamp/$name" "$room/target/stamp/"
-    fi
+    mkdir -p "$room/crates/${crate##*/}"
+    cp -R "$crate/src" "$room/crates/${crate##*/}/src"
 done
 uses=$(sed -n 's/::.*//p' "$room/calls" | sort -u | tr '\n' ' ')
 below=$(for crate in $uses; do sed -n "s/^$crate://p" "$root/crates.txt"; done | tr ' ' '\n' | sort -u | tr '\n' ' ')
 
-# the two crates: the same calls, but for the types of what is handed over
+# the two programs: the same calls, but for the types of what is handed over; main makes none of them
 add_crate() { # NAME MINUTE LANE
     mkdir -p "$room/crates/$1/src"
     {
@@ -63,6 +55,8 @@ add_crate() { # NAME MINUTE LANE
             plan::Partitioning rows::Side rows::Site; do
             echo "use $name;"
         done
+        echo
+        echo 'fn main(rt: HostRuntime) {}'
         n=0
         while read -r call; do
             n=$((n + 1))
@@ -71,26 +65,27 @@ add_crate() { # NAME MINUTE LANE
             echo "    $call" | sed "s/CHRONON/$2(k)/; s/INDEX/$3(k)/"
             echo '}'
         done <"$room/calls"
-    } >"$room/crates/$1/src/lib.rt"
+    } >"$room/crates/$1/src/main.rt"
     echo "$1: $(echo $uses $below | tr ' ' '\n' | sort -u | tr '\n' ' ')" >>"$room/crates.txt"
 }
 add_crate right_types Chronon PartitionIndex
 add_crate wrong_types PartitionIndex Chronon
 
-cd "$room"
-rt mir right_types >right.out 2>&1 || { tail -n 20 right.out >&2; fail "a right call was turned down"; }
-if grep -q ': error' right.out; then tail -n 20 right.out >&2; fail "a right call was turned down"; fi
+cd "$room/crates/right_types"
+rt try >"$room/right.out" 2>&1 || { tail -n 20 "$room/right.out" >&2; fail "a right call was turned down"; }
+if grep -q ': error' "$room/right.out"; then tail -n 20 "$room/right.out" >&2; fail "a right call was turned down"; fi
 
+cd "$room/crates/wrong_types"
 status=0
-rt mir wrong_types >wrong.out 2>&1 || status=$?
+rt try >"$room/wrong.out" 2>&1 || status=$?
 [ "$status" -ne 0 ] || fail "no wrong call was turned down"
-calls=$(wc -l <calls)
+calls=$(wc -l <"$room/calls")
 for n in $(seq "$calls"); do
-    at=$(grep -n "^pub fn call_$n(" crates/wrong_types/src/lib.rt | cut -d: -f1)
-    grep -Eq "wrong_types/src/lib\.rt:$((at + 1)):[0-9]+: error\[mismatched-types\]: expected .*(Chronon|PartitionIndex).*, found .*(Chronon|PartitionIndex)" wrong.out \
-        || { tail -n 40 wrong.out >&2; fail "a wrong call was taken: $(sed -n "${n}p" calls)"; }
+    at=$(grep -n "^pub fn call_$n(" src/main.rt | cut -d: -f1)
+    grep -Eq "^src/main\.rt:$((at + 1)):[0-9]+: error\[mismatched-types\]: expected .*(Chronon|PartitionIndex).*, found .*(Chronon|PartitionIndex)" "$room/wrong.out" \
+        || { tail -n 40 "$room/wrong.out" >&2; fail "a wrong call was taken: $(sed -n "${n}p" "$room/calls")"; }
 done
-errors=$(grep -c ': error' wrong.out || true)
-[ "$errors" -eq "$calls" ] || { tail -n 40 wrong.out >&2; fail "$errors errors for $calls wrong calls"; }
+errors=$(grep -c ': error' "$room/wrong.out" || true)
+[ "$errors" -eq "$calls" ] || { tail -n 40 "$room/wrong.out" >&2; fail "$errors errors for $calls wrong calls"; }
 
 echo "types: ok, $calls calls"

@@ -9,8 +9,8 @@ signal, without a line. An interrupted call is made again, and a short write goe
 that of an undisturbed run. Failures that no file or device gives come from a library in C that is loaded before the C
 library and answers for `read` and `write`; without a C compiler for x86-64 those cases are left out, and a line says
 so. What is expected comes from the reference of tests/wall_sessions.py. Prints 'wall: N failures, 0 differ'; exits 1 at
-the first case that differs. Works from any folder; proves and builds the program first if that is needed (`rt check
-wall`), or runs the one that the environment variable WALL names."""
+the first case that differs. Works from any folder; proves and builds the program first if that is needed (`rt run` in
+its folder), or runs the one that the environment variable WALL names."""
 import itertools
 import os
 import platform

@@ -20,7 +20,8 @@ room=$(mktemp -d)
 trap 'rm -rf "$room"' EXIT
 
 cd "$root"
-rt check wall >"$room/build.out" 2>&1 || { tail -n 30 "$room/build.out" >&2; exit 1; }
+# proved and built if that is needed, and run once, on no lines
+(cd crates/wall && rt run) >"$room/build.out" 2>&1 </dev/null || { tail -n 30 "$room/build.out" >&2; exit 1; }
 ${CC:-cc} -O3 -o "$room/c" "$here/wall.c"
 python3 - >"$room/lines" <<'LINES'
 # eight lanes, every tuple lane filled to one below its capacity, then withdrawals and inserts in turn
@@ -56,7 +57,7 @@ for k in range(1000000):
 LINES
 done
 
-python3 - "$room" target/bin/wall ${old:+"$old"} <<'TIME'
+python3 - "$room" crates/wall/out/wall ${old:+"$old"} <<'TIME'
 import resource, subprocess, sys
 room, *walls = sys.argv[1:]
 def turn(command, session):
