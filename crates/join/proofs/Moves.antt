@@ -15,7 +15,7 @@ use Rattle.lists.proofs.Below.{all-below}
 use Rattle.lists.proofs.Gather.{all-gather}
 use Rattle.lists.proofs.Parts.{parts-equal}
 use Rattle.lists.proofs.Same.{same-keep, length-same}
-use Rattle.interval.specs.Tuple.{to, same_tuple, same_row}
+use Rattle.interval.specs.Tuple.{same_tuple, same_row}
 use Rattle.interval.specs.declared.time.Chronon.{Chronon}
 use Rattle.interval.proofs.Tuples.{same-tuple-is, same-row-is}
 use Rattle.plan.specs.Plan.{most_partitions, most_tuples, most_rows, most_minimum, outside, cover, cuts_of, numbers}
@@ -28,10 +28,10 @@ use Rattle.store.specs.Store.{fits_tuples, fits_rows, stored_tuples, stored_rows
 use Rattle.store.proofs.StoreLoops.{tuples-given, rows-given}
 use Rattle.store.proofs.Stores.{partition-length, empty-part, sound-tuples-at, sound-rows-at, tuples-stored-at}
 use Rattle.store.proofs.Stores.{rows-stored-at}
-use Rattle.checks.specs.Stores.{Stores, stores, tuples_length, rows_length, tuples_unsound, rows_unsound, open_number}
+use Rattle.checks.specs.Stores.{Stores, tuples_length, rows_length, tuples_unsound, rows_unsound, open_number}
 use Rattle.checks.specs.Stores.{lengths_number, store_number}
 use Rattle.checks.proofs.Checks.{ready}
-use Rattle.repartitioning.specs.Moving.{tuples_overfull, rows_overfull, move_number, Moved, TuplesMoved, RowsMoved}
+use Rattle.repartitioning.specs.Moving.{tuples_overfull, rows_overfull, move_number, TuplesMoved, RowsMoved}
 use Rattle.join.specs.Repartitioning.{repartition_number, NeverThirteen, LanesAfter, EmptyKept, MinimumKept}
 
 -- ---- 13 is never given: the numbers of its checks are 1 to 5, 18, 2, 9 and 10
