@@ -10,9 +10,7 @@ use Rattle.text_buffer.specs.Buffer.{Put}
 use Rattle.text_buffer.proofs.Writing.{put-none}
 use Rattle.refusal_text.specs.Refusals.{refusal_line, answer_text}
 use Rattle.refusal_text.proofs.Refusals.{refusal-fits}
-use borrow.Author.Rules.{rules}
-use Rattle.refusal_text.proofs.put_answer.Statement.{statement}
-use Rattle.refusal_text.proofs.put_answer.Tie as tie
+use Rattle.refusal_text.proofs.put_answer.Goals as goal
 
 none : (at line number : ℕ) (out : List ℕ) → number ≡ 0 → Put at (answer_text line number) out out at
 unfolding answer_text
@@ -29,18 +27,11 @@ some at line number out out' r e p =
     (sym (pick-false (eqb number 0) [] (refusal_line line number) (ne_eqb number 0 e)))
     p
 
-returns : tie.Need-returns
-returns c = none _ _ _ _ c.if1.true
+pub returns-then-number-eq0 : goal.returns-then-number-eq0
+returns-then-number-eq0 c = none _ _ _ _ c.if-number-eq0.true
 
-put-refusal-requires : tie.Need-put-refusal-requires
-put-refusal-requires c κs =
-    refusal-fits _ _ _ _ c.before.before.before.requires
+pub put_refusal-requires : goal.put_refusal-requires
+put_refusal-requires c = refusal-fits _ _ _ _ c.requires
 
-same_length : tie.Need-same-length
-same_length c = search rules
-
-returns-2 : tie.Need-returns-2
-returns-2 c = some _ _ _ _ _ _ c.before.before.before.before.if1.false c.before.before.put-refusal.ensures
-
-pub put-answer-spec : {M : Type 1} → statement M
-put-answer-spec = tie.close (tie.spec returns put-refusal-requires same_length returns-2)
+pub returns : goal.returns
+returns c = some _ _ _ _ _ _ c.if-number-eq0.false c.put_refusal.ensures
