@@ -9,7 +9,9 @@ use Rattle.report.specs.Text.{row_line, partition_text}
 use Rattle.report.proofs.text.put_partition.Given as goal
 
 abbrev pub invariant-loop-k : goal.invariant-loop-k
-invariant-loop-k l = Left l.at (partition_text l.partition l.part) l.initial.out l.next (gather (row_line l.partition) (drop l.k (rows_in l.part))) l.out
+invariant-loop-k l =
+    Left l.at (partition_text l.partition l.part) l.initial.out l.next
+    (gather (row_line l.partition) (drop l.k (rows_in l.part))) l.out
 
 abbrev pub decreases-loop-k : goal.decreases-loop-k
 decreases-loop-k l = l.n - l.k

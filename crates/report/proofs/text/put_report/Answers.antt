@@ -91,8 +91,8 @@ put_partitions-requires c =
     let a = c.args in
     record {
       sound_store = c.requires.sound_store;
-      rows_in_bounds = left-room 0 (text_of a.p a.rows.now) a.out.now fits c.put_number-next.result c.put_number-next.new.out
-          (partitions_text a.p a.rows.now) [] count-put;
+      rows_in_bounds = left-room 0 (text_of a.p a.rows.now) a.out.now fits c.put_number-next.result
+          c.put_number-next.new.out (partitions_text a.p a.rows.now) [] count-put;
     }
 
 pub returns : goal.returns
