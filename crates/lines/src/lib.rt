@@ -1,6 +1,8 @@
 // The reader of one line (document 01, "Lines and the program"): fixed fields parted by commas, no quoting.
 // Each field is read to a value or to a refusal, and the reader goes on only with a value. Cost: each byte a few times.
 // The definitions are in specs/: Fields (commas, numbers), Line (the form of a line, its value, how a value prints).
+#![tactic(auto)]
+
 ghost use Rattle.std.specs.Prelude.{◌≡◌};
 ghost use Rattle.lists.specs.Members.{place_of};
 ghost use Rattle.lines.specs.Fields.{is_byte, same_bytes, NumberRead, fields_of};

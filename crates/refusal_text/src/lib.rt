@@ -2,6 +2,8 @@
 // into a lent buffer as `text_buffer` does it: a writer is given the place to start and answers the place after what it
 // wrote. Every other byte of the buffer keeps its contents. The definitions are in specs/Refusals.antt.
 // Cost: each byte once.
+#![tactic(auto)]
+
 ghost use Rattle.std.specs.Prelude.{◌≡◌, ◌+◌, ◌≤◌, length};
 ghost use Rattle.text_buffer.specs.Buffer.{Put};
 ghost use Rattle.refusal_text.specs.Refusals.{refusal_room, refusal_line, answer_text, next_line};

@@ -5,6 +5,8 @@
 // read only; a refusal changes no word and no byte. Cost: check 5 reads every word of the store; then each lane is
 // sorted in place, at most a swap for each pair of its rows, and each byte of the text is written once. The
 // definitions are in specs/: Order (of rows), Text, Report; in Steps what the private functions promise one another.
+#![tactic(auto)]
+
 mod order;
 mod text;
 

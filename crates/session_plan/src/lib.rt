@@ -3,6 +3,8 @@
 // `least` line, and the session with one lane more or with another minimum. Nothing has to be checked before calling:
 // every answer is a definition's, for any session. No store is read or written: what a line does with the session and
 // the stores is in `session`. The definitions are in specs/Lanes.antt.
+#![tactic(auto)]
+
 ghost use Rattle.std.specs.Prelude.{◌≡◌, min};
 ghost use Rattle.session_plan.specs.Lanes.{fresh, plan_of, grown, with_minimum, used_partitions, used_tuples};
 ghost use Rattle.session_plan.specs.Lanes.{used_rows, lane_check, least_check};

@@ -1,6 +1,8 @@
 // Text put into a lent buffer piece by piece: each writer is given the place to start and answers the place after what
 // it wrote. Every other byte of the buffer keeps its contents. The definitions are in specs/Buffer.antt.
 // Cost: each byte once.
+#![tactic(auto)]
+
 ghost use Rattle.std.specs.Prelude.{◌+◌, ◌≤◌, length};
 ghost use Rattle.lines.specs.Fields.{digits_of};
 ghost use Rattle.text_buffer.specs.Buffer.{ended, Put};

@@ -1,0 +1,17 @@
+-- `lines::read_lane` meets its contract: the rest of the line is a number, or the line is malformed.
+-- Assumes nothing.
+use Rattle.lines.proofs.Answers.{number-value, number-refused}
+use Rattle.lines.proofs.Forms.{lane-refused, lane-value}
+use Rattle.lines.proofs.read_lane.Goals as goal
+
+pub returns-in_default : goal.returns-in_default
+returns-in_default c =
+    let bs = c.args.rest.now in
+    let r = c.read_number-field in
+    lane-refused bs (number-refused bs r.result r.ensures c.in_default.is)
+
+pub returns : goal.returns
+returns c =
+    let bs = c.args.rest.now in
+    let r = c.read_number-field in
+    lane-value bs c.in-Value.last (number-value bs r.result c.in-Value.last r.ensures c.in-Value.is)

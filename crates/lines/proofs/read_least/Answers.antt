@@ -1,0 +1,17 @@
+-- `lines::read_least` meets its contract: the rest of the line is a number, or the line is malformed.
+-- Assumes nothing.
+use Rattle.lines.proofs.Answers.{number-value, number-refused}
+use Rattle.lines.proofs.Forms.{least-refused, least-value}
+use Rattle.lines.proofs.read_least.Goals as goal
+
+pub returns-in_default : goal.returns-in_default
+returns-in_default c =
+    let bs = c.args.rest.now in
+    let r = c.read_number-field in
+    least-refused bs (number-refused bs r.result r.ensures c.in_default.is)
+
+pub returns : goal.returns
+returns c =
+    let bs = c.args.rest.now in
+    let r = c.read_number-field in
+    least-value bs c.in-Value.minutes (number-value bs r.result c.in-Value.minutes r.ensures c.in-Value.is)
