@@ -3,6 +3,8 @@
 //
 // The functions ask by their `requires` what a plan and a rows store that passed checks 1 to 5 give. Cost: each row of
 // those partitions is read once from `first` to the last `next`. The definitions are in specs/Cursor.
+#![tactic(auto)]
+
 ghost use Rattle.std.specs.Prelude.{true, false, ◌≡◌, ◌≤◌, length};
 ghost use Rattle.interval.specs.Tuple.{row_width};
 ghost use Rattle.part.specs.Part.{room_of, counted};

@@ -3,6 +3,8 @@
 // question_words the same as a host's words.
 //
 // The definitions are in specs/: Question (what an answer is, what is read), Steps (what is done for a row).
+#![tactic(auto)]
+
 ghost use Rattle.std.specs.Prelude.{◌≡◌, ◌<◌};
 ghost use Rattle.plan.specs.Plan.{plan_number};
 ghost use Rattle.question.specs.Question.{with_answer};

@@ -4,6 +4,8 @@
 // Nothing has to be checked before calling, and a refusal changes no word. Checks 1 to 5 of the plan and the rows store
 // come first; words that are no whole number of questions fall under 4. Cost: as of crate questions.
 // The definitions are in specs/QuestionWords.
+#![tactic(auto)]
+
 ghost use Rattle.std.specs.Prelude.{true, map, ◌≡◌, ◌+◌, ◌*◌, ◌≤◌, length};
 ghost use Rattle.cursor.specs.Cursor.{chosen, Scannable};
 ghost use Rattle.question.specs.Question.{with_answer};
@@ -88,6 +90,7 @@ fn count_rows(rows: &[u64], scan: Scan, ws: &mut [u64])
 }
 
 // Check 4 of that many words: 4, or 0 if they are whole questions.
+#[tactic(auto, unfolding(crate::specs::QuestionWords::whole_check))]
 fn whole_check(words: usize) -> u64
     ensures { result ≡ whole_check words }
 {

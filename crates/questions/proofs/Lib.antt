@@ -1,10 +1,3 @@
--- The laws of this crate: a slice lent again; what a sound rows store answers; what the call answers; and the functions
--- that the walks by hand call: those of crate question that `begin` calls, of crate cursor, those that `answer_sound`
--- calls, of crate checks.
-pub mod Again
+-- The laws of this crate: loops over a lent list of questions; what a sound rows store answers.
+pub mod Loops
 pub mod Sound
-pub mod Called
-pub mod BeginCalls
-pub mod CursorCalls
-pub mod SoundCalls
-pub mod CheckCalls

@@ -9,6 +9,8 @@
 //
 // The slice of structs is the form that document 01 names: its functions are thin walks over functions of one question
 // (crate question) and of a cursor over the rows store (crate cursor). The definitions are in specs/Answered.
+#![tactic(auto)]
+
 ghost use Rattle.std.specs.Prelude.{true, map, ◌≡◌, length};
 ghost use Rattle.store.specs.Store.{stored_rows};
 ghost use Rattle.checks.specs.Stores.{rows_number};
