@@ -1,6 +1,5 @@
 -- Demand 3, proved: after every list of calls on a freshly opened wall the stores hold what the machine holds.
 -- Assumes nothing.
-use mathlib.Core.Bool.{true}
 use mathlib.Core.List.{List, [], ◌∷◌}
 use mathlib.Core.Logic.{◌⊎◌, inl, inr, ⊎_elim}
 use mathlib.Core.Option.{some}

@@ -2,7 +2,6 @@
 -- places.
 -- In order: that it gives `Current`; the same seen from one side; what is to be shown of a call; a refused call.
 -- Assumes nothing.
-use mathlib.Core.Bool.{true}
 use mathlib.Core.List.{List}
 use mathlib.Core.Option.{some}
 use mathlib.Core.Path.{◌≡◌}

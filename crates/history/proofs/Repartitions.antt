@@ -12,7 +12,7 @@ use native.Mathlib.Omega.{arith}
 use lib.Dec.{ltb, eqb}
 use lib.ListN.{length}
 use borrow.Author.Tests.{lt-ltb}
-use Rattle.lists.specs.Members.{all, keep, tally, gather, below}
+use Rattle.lists.specs.Members.{all, keep, tally, below}
 use Rattle.lists.specs.Same.{Same}
 use Rattle.lists.proofs.Choice.{and_left, and_right, and_both}
 use Rattle.lists.proofs.Members.{all_append, all-imply}
