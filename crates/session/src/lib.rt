@@ -4,6 +4,8 @@
 // line changes nothing. The lent stores may be longer than the plan needs: the words beyond the plan's lanes are
 // neither read nor written. The definitions are in specs/Session.antt; the session, its plan and the checks of a lane
 // line and of a `least` line are in `session_plan`. Cost: that of the call on the join.
+#![tactic(auto)]
+
 ghost use Rattle.std.specs.Prelude.{◌≡◌};
 ghost use Rattle.checks.specs.Stores.{Stores, stores};
 ghost use Rattle.lines.specs.Line.{line_of};
