@@ -1,8 +1,9 @@
 // Label fields: every single byte, every two bytes, and rows of the letters Z and z of each length from 0 to 10.
 use crate::report;
 use label::LabelField;
+use std::io;
 
-#[derive(Drop)]
+#[derive(Clone, Copy)]
 struct Counts {
     cases: u64,
     wrong: u64,
@@ -47,12 +48,12 @@ fn none() -> Counts {
     }
 }
 
-fn line(n: Counts) {
-    report::number(n.cases);
-    report::number(n.wrong);
-    report::number(n.accepted);
-    report::number(n.refused);
-    report::end();
+fn line(rt: &impl Print, n: Counts) -> io::Result<()> {
+    report::number(rt, n.cases)?;
+    report::number(rt, n.wrong)?;
+    report::number(rt, n.accepted)?;
+    report::number(rt, n.refused)?;
+    report::end(rt)
 }
 
 // The place of a byte in the alphabet, written both ways, from 1 to 26; 0 for a byte that is not there.
@@ -84,9 +85,9 @@ fn all_bytes() -> Counts {
 }
 
 // The line bytes: fields of one byte, fields that differ, fields accepted, fields refused.
-pub(crate) fn run_bytes() {
-    report::name(b"bytes");
-    line(all_bytes());
+pub(crate) fn run_bytes(rt: &impl Print) -> io::Result<()> {
+    report::name(rt, "bytes")?;
+    line(rt, all_bytes())
 }
 
 // The number of the label of two letters with these places: the 26 labels of one letter stand before it, and 26 more
@@ -127,9 +128,9 @@ fn all_twos() -> Counts {
 }
 
 // The line twos: fields of two bytes, fields that differ, fields accepted, fields refused.
-pub(crate) fn run_twos() {
-    report::name(b"twos");
-    line(all_twos());
+pub(crate) fn run_twos(rt: &impl Print) -> io::Result<()> {
+    report::name(rt, "twos")?;
+    line(rt, all_twos())
 }
 
 // The number of so many Z, or 0 where that is no label: how many labels have at most so many letters.
@@ -174,7 +175,7 @@ fn all_lengths() -> Counts {
 }
 
 // The line lengths: rows of Z and of z, rows that differ, rows accepted, rows refused.
-pub(crate) fn run_lengths() {
-    report::name(b"lengths");
-    line(all_lengths());
+pub(crate) fn run_lengths(rt: &impl Print) -> io::Result<()> {
+    report::name(rt, "lengths")?;
+    line(rt, all_lengths())
 }

@@ -1,22 +1,23 @@
 // Labels: an odometer of letters beside the running numbers 1 to 20,000, the last labels of all, and labels in which a
 // letter's place shows.
 use crate::report;
+use std::io;
 
 // A mileage counter of letters: the first `count` bytes show A to Z, the others are 0.
-#[derive(Drop)]
+#[derive(Clone, Copy)]
 struct Odometer {
     bytes: [u8; 8],
     count: usize,
 }
 
 // The odometer while it is counted up: whether a wheel still has to move.
-#[derive(Drop)]
+#[derive(Clone, Copy)]
 struct Turning {
     bytes: [u8; 8],
     carry: bool,
 }
 
-#[derive(Drop)]
+#[derive(Clone, Copy)]
 struct Labels {
     shown: Odometer,
     cases: u64,
@@ -86,7 +87,7 @@ fn spells(number: u64, o: Odometer) -> bool {
     if l.count != o.count as u64 {
         return false;
     }
-    check::same(&letters, &shown)
+    letters == shown
 }
 
 // The number of the first `count` of the bytes, 0 if there are not so many.
@@ -140,12 +141,12 @@ fn all_labels() -> Labels {
 }
 
 // The line labels: numbers, numbers that differ.
-pub(crate) fn run() {
+pub(crate) fn run(rt: &impl Print) -> io::Result<()> {
     let l = all_labels();
-    report::name(b"labels");
-    report::number(l.cases);
-    report::number(l.wrong);
-    report::end();
+    report::name(rt, "labels")?;
+    report::number(rt, l.cases)?;
+    report::number(rt, l.wrong)?;
+    report::end(rt)
 }
 
 // Seven Z and a last letter.
@@ -158,7 +159,7 @@ fn seven_z_and(letter: u8) -> Odometer {
 
 // The line ends: five cases at the ends of the range, and how many differ. They are ZZZZZZZY, what the odometer
 // shows after it, ZZZZZZZZ, and that the numbers next to the range, one more and 0, have no letters.
-pub(crate) fn run_ends() {
+pub(crate) fn run_ends(rt: &impl Print) -> io::Result<()> {
     let y = seven_z_and(89);
     let z = seven_z_and(90);
     let a = report::more_unless(agrees(217_180_147_157, y), 0);
@@ -166,25 +167,25 @@ pub(crate) fn run_ends() {
     let c = report::more_unless(agrees(217_180_147_158, z), b);
     let d = report::more_unless(spells(217_180_147_159, empty()), c);
     let e = report::more_unless(spells(0, empty()), d);
-    report::name(b"ends");
-    report::number(5);
-    report::number(e);
-    report::end();
+    report::name(rt, "ends")?;
+    report::number(rt, 5)?;
+    report::number(rt, e)?;
+    report::end(rt)
 }
 
 // The line places: the numbers of labels of eight letters, A but for a B at one place, from the first place to the
 // last, then of eight letters that differ, and of the same from the last to the first.
-pub(crate) fn run_places() {
-    report::name(b"places");
-    report::number(label::label_number(b"BAAAAAAA"));
-    report::number(label::label_number(b"ABAAAAAA"));
-    report::number(label::label_number(b"AABAAAAA"));
-    report::number(label::label_number(b"AAABAAAA"));
-    report::number(label::label_number(b"AAAABAAA"));
-    report::number(label::label_number(b"AAAAABAA"));
-    report::number(label::label_number(b"AAAAAABA"));
-    report::number(label::label_number(b"AAAAAAAB"));
-    report::number(label::label_number(b"SPACEMUG"));
-    report::number(label::label_number(b"GUMECAPS"));
-    report::end();
+pub(crate) fn run_places(rt: &impl Print) -> io::Result<()> {
+    report::name(rt, "places")?;
+    report::number(rt, label::label_number(b"BAAAAAAA"))?;
+    report::number(rt, label::label_number(b"ABAAAAAA"))?;
+    report::number(rt, label::label_number(b"AABAAAAA"))?;
+    report::number(rt, label::label_number(b"AAABAAAA"))?;
+    report::number(rt, label::label_number(b"AAAABAAA"))?;
+    report::number(rt, label::label_number(b"AAAAABAA"))?;
+    report::number(rt, label::label_number(b"AAAAAABA"))?;
+    report::number(rt, label::label_number(b"AAAAAAAB"))?;
+    report::number(rt, label::label_number(b"SPACEMUG"))?;
+    report::number(rt, label::label_number(b"GUMECAPS"))?;
+    report::end(rt)
 }

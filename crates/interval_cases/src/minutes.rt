@@ -3,6 +3,7 @@
 use crate::report;
 use interval::time::{Chronon, Interval};
 use interval::tuple::Row;
+use std::io;
 
 const HUGE: u64 = 18_446_744_073_709_551_615;
 
@@ -10,7 +11,7 @@ const HUGE: u64 = 18_446_744_073_709_551_615;
 const MINIMA: usize = 13;
 
 // How many cases there are, how many differ, and how many the crate affirms of each minimum.
-#[derive(Drop)]
+#[derive(Clone, Copy)]
 struct Counts {
     cases: u64,
     wrong: u64,
@@ -175,34 +176,34 @@ fn all_rows() -> Counts {
     n
 }
 
-fn line(n: Counts) {
+fn line(rt: &impl Print, n: Counts) -> io::Result<()> {
     let affirmed = n.affirmed;
-    report::number(n.cases);
-    report::number(n.wrong);
-    report::number(affirmed[0]);
-    report::number(affirmed[1]);
-    report::number(affirmed[2]);
-    report::number(affirmed[3]);
-    report::number(affirmed[4]);
-    report::number(affirmed[5]);
-    report::number(affirmed[6]);
-    report::number(affirmed[7]);
-    report::number(affirmed[8]);
-    report::number(affirmed[9]);
-    report::number(affirmed[10]);
-    report::number(affirmed[11]);
-    report::number(affirmed[12]);
-    report::end();
+    report::number(rt, n.cases)?;
+    report::number(rt, n.wrong)?;
+    report::number(rt, affirmed[0])?;
+    report::number(rt, affirmed[1])?;
+    report::number(rt, affirmed[2])?;
+    report::number(rt, affirmed[3])?;
+    report::number(rt, affirmed[4])?;
+    report::number(rt, affirmed[5])?;
+    report::number(rt, affirmed[6])?;
+    report::number(rt, affirmed[7])?;
+    report::number(rt, affirmed[8])?;
+    report::number(rt, affirmed[9])?;
+    report::number(rt, affirmed[10])?;
+    report::number(rt, affirmed[11])?;
+    report::number(rt, affirmed[12])?;
+    report::end(rt)
 }
 
 // The line minutes: spans with a minimum, those that differ, and for each minimum how many last so long.
-pub(crate) fn run() {
-    report::name(b"minutes");
-    line(all_spans());
+pub(crate) fn run(rt: &impl Print) -> io::Result<()> {
+    report::name(rt, "minutes")?;
+    line(rt, all_spans())
 }
 
 // The line rows: rows with a minimum, those that differ, and for each minimum how many are legal.
-pub(crate) fn run_rows() {
-    report::name(b"rows");
-    line(all_rows());
+pub(crate) fn run_rows(rt: &impl Print) -> io::Result<()> {
+    report::name(rt, "rows")?;
+    line(rt, all_rows())
 }

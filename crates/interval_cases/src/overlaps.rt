@@ -1,16 +1,17 @@
 // Overlaps: all pairs of spans over the minutes 0 to 12, reversed spans too, against a walk over the minutes.
 use crate::report;
 use interval::time::{Chronon, Interval, Overlap};
+use std::io;
 
 // What a walk has seen: how many minutes lie in both spans, the first of them and the last.
-#[derive(Drop)]
+#[derive(Clone, Copy)]
 struct Seen {
     found: u64,
     first: u64,
     last: u64,
 }
 
-#[derive(Drop)]
+#[derive(Clone, Copy)]
 struct Counts {
     cases: u64,
     wrong: u64,
@@ -110,11 +111,11 @@ fn all_pairs() -> Counts {
 }
 
 // The line overlap: pairs, pairs that differ, pairs with an overlap.
-pub(crate) fn run() {
+pub(crate) fn run(rt: &impl Print) -> io::Result<()> {
     let n = all_pairs();
-    report::name(b"overlap");
-    report::number(n.cases);
-    report::number(n.wrong);
-    report::number(n.common);
-    report::end();
+    report::name(rt, "overlap")?;
+    report::number(rt, n.cases)?;
+    report::number(rt, n.wrong)?;
+    report::number(rt, n.common)?;
+    report::end(rt)
 }

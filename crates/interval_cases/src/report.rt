@@ -1,5 +1,5 @@
 // Counters that stop at a million, and the parts of a line of the report.
-use libc::STDOUT_FILENO;
+use std::io;
 
 // One more.
 pub(crate) fn more(n: u64) -> u64 {
@@ -16,15 +16,14 @@ pub(crate) fn either(first: bool, a: u64, b: u64) -> u64 {
     if first { a } else { b }
 }
 
-pub(crate) fn name(text: &[u8]) {
-    io::write_all(STDOUT_FILENO, text);
+pub(crate) fn name(rt: &impl Print, text: &str) -> io::Result<()> {
+    print!(rt; "{text}")
 }
 
-pub(crate) fn number(n: u64) {
-    io::write_all(STDOUT_FILENO, b",");
-    io::print_decimal(STDOUT_FILENO, n);
+pub(crate) fn number(rt: &impl Print, n: u64) -> io::Result<()> {
+    print!(rt; ",{n}")
 }
 
-pub(crate) fn end() {
-    io::write_all(STDOUT_FILENO, b"\n");
+pub(crate) fn end(rt: &impl Print) -> io::Result<()> {
+    println!(rt;)
 }

@@ -3,8 +3,9 @@
 use crate::report;
 use interval::time::{Chronon, Interval};
 use interval::tuple::Tuple;
+use std::io;
 
-#[derive(Drop)]
+#[derive(Clone, Copy)]
 struct Counts {
     cases: u64,
     wrong: u64,
@@ -96,15 +97,15 @@ fn all_tuples() -> Counts {
 }
 
 // The line tuples: tuples, tuples that differ, and how many the crate answers with 0, 6, 7, 8 and 17.
-pub(crate) fn run() {
+pub(crate) fn run(rt: &impl Print) -> io::Result<()> {
     let n = all_tuples();
-    report::name(b"tuples");
-    report::number(n.cases);
-    report::number(n.wrong);
-    report::number(n.legal);
-    report::number(n.sixes);
-    report::number(n.sevens);
-    report::number(n.eights);
-    report::number(n.seventeens);
-    report::end();
+    report::name(rt, "tuples")?;
+    report::number(rt, n.cases)?;
+    report::number(rt, n.wrong)?;
+    report::number(rt, n.legal)?;
+    report::number(rt, n.sixes)?;
+    report::number(rt, n.sevens)?;
+    report::number(rt, n.eights)?;
+    report::number(rt, n.seventeens)?;
+    report::end(rt)
 }
