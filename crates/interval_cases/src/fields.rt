@@ -59,12 +59,10 @@ fn line(rt: &impl Print, n: Counts) -> io::Result<()> {
 // The place of a byte in the alphabet, written both ways, from 1 to 26; 0 for a byte that is not there.
 fn place(b: u8) -> u64 {
     let alphabet = *b"AaBbCcDdEeFfGgHhIiJjKkLlMmNnOoPpQqRrSsTtUuVvWwXxYyZz";
-    let mut i: usize = 0;
-    while i < 52 {
+    for i in 0..52 {
         if alphabet[i] == b {
             return i as u64 / 2 + 1;
         }
-        i += 1;
     }
     0
 }
@@ -76,10 +74,8 @@ fn one_byte(n: Counts, b: u8) -> Counts {
 
 fn all_bytes() -> Counts {
     let mut n = none();
-    let mut b: u64 = 0;
-    while b < 256 {
-        n = one_byte(n, b as u8);
-        b += 1;
+    for b in 0..=255 {
+        n = one_byte(n, b);
     }
     n
 }
@@ -119,10 +115,8 @@ fn two_bytes(n: Counts, first: u8, second: u8) -> Counts {
 
 fn all_twos() -> Counts {
     let mut n = none();
-    let mut k: u64 = 0;
-    while k < 65_536 {
+    for k in 0..65_536u64 {
         n = two_bytes(n, (k / 256) as u8, (k % 256) as u8);
-        k += 1;
     }
     n
 }
@@ -166,10 +160,8 @@ fn one_length(n: Counts, length: usize) -> Counts {
 
 fn all_lengths() -> Counts {
     let mut n = none();
-    let mut length: usize = 0;
-    while length <= 10 {
+    for length in 0..=10 {
         n = one_length(n, length);
-        length += 1;
     }
     n
 }

@@ -53,10 +53,8 @@ fn turn_all(o: Odometer) -> Turning {
         bytes: shown,
         carry: true,
     };
-    let mut left: usize = 8;
-    while 0 < left {
-        left -= 1;
-        t = turn(t, left, count);
+    for wheel in (0..8).rev() {
+        t = turn(t, wheel, count);
     }
     t
 }
@@ -132,10 +130,8 @@ fn all_labels() -> Labels {
         cases: 0,
         wrong: 0,
     };
-    let mut number: u64 = 1;
-    while number <= 20_000 {
+    for number in 1..=20_000 {
         l = one_label(l, number);
-        number += 1;
     }
     l
 }

@@ -127,10 +127,8 @@ fn one_span(n: Counts, k: u64) -> Counts {
 
 fn all_spans() -> Counts {
     let mut n = none();
-    let mut k: u64 = 0;
-    while k < 2_197 {
+    for k in 0..2_197 {
         n = one_span(n, k);
-        k += 1;
     }
     n
 }
@@ -168,10 +166,8 @@ fn one_row(n: Counts, k: u64) -> Counts {
 
 fn all_rows() -> Counts {
     let mut n = none();
-    let mut k: u64 = 0;
-    while k < 79_092 {
+    for k in 0..79_092 {
         n = one_row(n, k);
-        k += 1;
     }
     n
 }

@@ -38,10 +38,8 @@ fn walk(a: Interval, b: Interval) -> Seen {
         first: 0,
         last: 0,
     };
-    let mut minute: u64 = 0;
-    while minute < 13 {
+    for minute in 0..13 {
         w = step(w, a, b, minute);
-        minute += 1;
     }
     w
 }
@@ -102,10 +100,8 @@ fn all_pairs() -> Counts {
         wrong: 0,
         common: 0,
     };
-    let mut k: u64 = 0;
-    while k < 28_561 {
+    for k in 0..28_561 {
         n = pair(n, k);
-        k += 1;
     }
     n
 }

@@ -88,10 +88,8 @@ fn all_tuples() -> Counts {
         eights: 0,
         seventeens: 0,
     };
-    let mut k: u64 = 0;
-    while k < 720 {
+    for k in 0..720 {
         n = one_tuple(n, k);
-        k += 1;
     }
     n
 }

@@ -9,7 +9,7 @@ use plan::{PLACES, Partitioning};
 use rows::Side;
 
 // How many words of each store are lent.
-#[derive(Drop)]
+#[derive(Clone, Copy)]
 pub(crate) struct Lengths {
     pub(crate) outer: u64,
     pub(crate) inner: u64,
@@ -18,7 +18,7 @@ pub(crate) struct Lengths {
 
 // A call: its kind, and all that is handed over; `base` is the plan before it was disturbed. The kinds: 0 open, 1
 // insert, 2 delete, 3 sweep, 4 repartition, 5 sweep aside, into a rows store of its own.
-#[derive(Drop)]
+#[derive(Clone, Copy)]
 pub(crate) struct Call {
     pub(crate) kind: u64,
     pub(crate) base: Partitioning,
@@ -31,7 +31,7 @@ pub(crate) struct Call {
 }
 
 // What a call left: its answer, the plan in force after it, the wall's stores, and a digest of the rest.
-#[derive(Drop)]
+#[derive(Clone, Copy)]
 pub(crate) struct Left {
     pub(crate) answer: Answer,
     pub(crate) plan: Partitioning,

@@ -20,10 +20,8 @@ fn square(a: u64) -> u64 {
 // The words from a place on, up to another, in order.
 pub(crate) fn run(h: u64, words: &[u64], from: u64, end: u64) -> u64 {
     let mut all = h;
-    let mut i = from;
-    while i < end {
+    for i in from..end {
         all = mix(all, total::word(words, i));
-        i += 1;
     }
     all
 }
@@ -39,13 +37,11 @@ pub(crate) fn smallest(words: &[u64], base: u64, width: u64, count: u64, salt: u
     let mut place = total::plus(base, 1);
     let mut best: u64 = 1_000_003;
     let mut at = total::plus(base, 1);
-    let mut k: u64 = 0;
-    while k < count {
+    for _ in 0..count {
         let h = record(salt, words, at, width);
         place = total::either(h < best, at, place);
         best = total::either(h < best, h, best);
         at = total::plus(at, width);
-        k += 1;
     }
     place
 }
@@ -53,10 +49,8 @@ pub(crate) fn smallest(words: &[u64], base: u64, width: u64, count: u64, salt: u
 // All parts of a plan.
 pub(crate) fn plan(p: Partitioning) -> u64 {
     let mut all = mix(0, p.count);
-    let mut i: usize = 0;
-    while i < PLACES {
+    for i in 0..PLACES {
         all = mix(all, plans::cut(p, i as u64));
-        i += 1;
     }
     mix(mix(mix(all, p.tuples), p.rows), p.minimum)
 }
@@ -71,12 +65,10 @@ fn places(words: &[u64], base: u64, width: u64, capacity: u64) -> u64 {
     let count = total::word(words, base);
     let mut all: u64 = 0;
     let mut at = total::plus(base, 1);
-    let mut k: u64 = 0;
-    while k < capacity {
+    for k in 0..capacity {
         all = sum(all, record(1, words, at, width));
         all = sum(all, astray(k, count, total::word(words, at)));
         at = total::plus(at, width);
-        k += 1;
     }
     all
 }
@@ -84,18 +76,16 @@ fn places(words: &[u64], base: u64, width: u64, capacity: u64) -> u64 {
 // 1 if one of the n words from a place on is not what it was, else 0.
 fn differ(before: &[u64], words: &[u64], base: u64, n: u64) -> u64 {
     let mut found: u64 = 0;
-    let mut k: u64 = 0;
-    while k < n {
+    for k in 0..n {
         let at = total::plus(base, k);
         found = total::either(total::word(before, at) == total::word(words, at), found, 1);
-        k += 1;
     }
     found
 }
 
 // The lanes of a store: how many, the words of a record, the records that a lane has place for, and how many words of
 // each lane are compared with those before the call: all, or none if the order of its records is free.
-#[derive(Drop)]
+#[derive(Clone, Copy)]
 struct Lanes {
     count: u64,
     width: u64,
@@ -119,18 +109,16 @@ fn store(h: u64, l: Lanes, before: &[u64], words: &[u64]) -> u64 {
     let room = stores::room(l.width, l.capacity);
     let mut all = h;
     let mut base: u64 = 0;
-    let mut i: u64 = 0;
-    while i < l.count {
+    for _ in 0..l.count {
         all = lane(all, l, before, words, base);
         base = total::plus(base, room);
-        i += 1;
     }
     mix(all, total::word(words, base))
 }
 
 // Which order is free: that of the tuples and that of the rows, in what a call left; and whether the order of the
 // tuples can be told at all.
-#[derive(Drop)]
+#[derive(Clone, Copy)]
 pub(crate) struct Order {
     pub(crate) free_tuples: bool,
     pub(crate) free_rows: bool,

@@ -12,11 +12,9 @@ pub(crate) fn value(state: u64) -> u64 {
 // Fills the words with drawn numbers, and answers the state after them.
 pub(crate) fn fill(state: u64, words: &mut [u64]) -> u64 {
     let mut s = state;
-    let mut i: usize = 0;
-    while i < words.len() {
+    for w in words.iter_mut() {
         s = next(s);
-        words[i] = value(s);
-        i += 1;
+        *w = value(s);
     }
     s
 }

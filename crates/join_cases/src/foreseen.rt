@@ -8,7 +8,7 @@ use requirements::Requirements;
 const REPORT_WORDS: usize = 66;
 
 // What was reported: the number, and a digest of all of it.
-#[derive(Drop)]
+#[derive(Clone, Copy)]
 pub(crate) struct Reported {
     pub(crate) number: u64,
     pub(crate) digest: u64,

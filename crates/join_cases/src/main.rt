@@ -6,6 +6,8 @@
 // All functions answer for any words: what would be too large is made small first (total), and a word past the end of a
 // slice is 0. So each is proved safe by little more than its loop's bound. Walls and stores go by value, which the
 // prover walks faster than lent ones.
+#![tactic(auto)]
+
 mod calls;
 mod digest;
 mod draws;
@@ -20,45 +22,43 @@ mod total;
 mod tuples;
 mod walls;
 
+use std::io;
 use walls::Tally;
 
 const LATE: u64 = 4_972;
 
 // One list.
-fn one_list(seed: u64, tally: Tally) -> Tally {
+fn one_list(rt: &impl Print, seed: u64, tally: Tally) -> io::Result<Tally> {
     let end = walls::run(seed, tally);
-    report::first(seed);
-    report::number(end.digest);
-    report::number(end.accepted);
-    report::end();
-    end.tally
+    report::first(rt, seed)?;
+    report::number(rt, end.digest)?;
+    report::number(rt, end.accepted)?;
+    report::end(rt)?;
+    Ok(end.tally)
 }
 
 // The lists of the seeds from 351 to 600, and one more, in which a sweep is refused with 10 by the rows of a tuple that
 // comes from above and starts at the lane's last minute.
-fn all_lists() -> Tally {
+fn all_lists(rt: &impl Print) -> io::Result<Tally> {
     let mut tally = walls::none();
-    let mut seed: u64 = 351;
-    while seed <= 600 {
-        tally = one_list(seed, tally);
-        seed += 1;
+    for seed in 351..=600 {
+        tally = one_list(rt, seed, tally)?;
     }
-    one_list(LATE, tally)
+    one_list(rt, LATE, tally)
 }
 
-fn numbers(times: &[u64]) {
-    let mut number: u64 = 0;
-    while number < 19 {
-        report::name(b"number");
-        report::number(number);
-        report::number(total::word(times, number));
-        report::end();
-        number += 1;
+fn numbers(rt: &impl Print, times: &[u64]) -> io::Result<()> {
+    for number in 0..19 {
+        report::name(rt, "number")?;
+        report::number(rt, number)?;
+        report::number(rt, total::word(times, number))?;
+        report::end(rt)?;
     }
+    Ok(())
 }
 
-fn main() {
-    let tally = all_lists();
+fn main(rt: HostRuntime) -> io::Result<()> {
+    let tally = all_lists(&rt)?;
     let times = tally.times;
-    numbers(&times);
+    numbers(&rt, &times)
 }

@@ -29,14 +29,12 @@ fn cuts(state: u64, count: u64, apart: u64) -> [Chronon; PLACES] {
     let mut lasts = [Chronon(0); PLACES];
     let mut s = state;
     let mut minute: u64 = 0;
-    let mut i: usize = 0;
-    while i < PLACES {
+    for i in 0..PLACES {
         s = draws::next(s);
         let w = draws::value(s);
         minute = total::plus(minute, total::rest(w, apart));
         lasts[i] = Chronon(cut_drawn(i as u64, count, minute, w));
         minute = total::plus(minute, 1);
-        i += 1;
     }
     lasts
 }
@@ -145,10 +143,8 @@ fn disturbed(p: Partitioning, kind: u64, w: u64) -> Partitioning {
 // How many lanes end before a minute: the lane that it is in, from 0.
 fn lane_of(p: Partitioning, minute: u64) -> u64 {
     let mut lane: u64 = 0;
-    let mut i: u64 = 0;
-    while i < p.count {
+    for i in 0..p.count {
         lane = total::either(cut(p, i) < minute, total::plus(i, 1), lane);
-        i += 1;
     }
     lane
 }

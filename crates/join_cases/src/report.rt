@@ -1,19 +1,18 @@
 // The parts of a line of the report.
-use libc::STDOUT_FILENO;
+use std::io;
 
-pub(crate) fn name(text: &[u8]) {
-    io::write_all(STDOUT_FILENO, text);
+pub(crate) fn name(rt: &impl Print, text: &str) -> io::Result<()> {
+    print!(rt; "{text}")
 }
 
-pub(crate) fn first(n: u64) {
-    io::print_decimal(STDOUT_FILENO, n);
+pub(crate) fn first(rt: &impl Print, n: u64) -> io::Result<()> {
+    print!(rt; "{n}")
 }
 
-pub(crate) fn number(n: u64) {
-    io::write_all(STDOUT_FILENO, b",");
-    io::print_decimal(STDOUT_FILENO, n);
+pub(crate) fn number(rt: &impl Print, n: u64) -> io::Result<()> {
+    print!(rt; ",{n}")
 }
 
-pub(crate) fn end() {
-    io::write_all(STDOUT_FILENO, b"\n");
+pub(crate) fn end(rt: &impl Print) -> io::Result<()> {
+    println!(rt;)
 }

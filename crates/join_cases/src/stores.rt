@@ -5,7 +5,7 @@ pub(crate) const TUPLE_WORDS: usize = 322;
 
 pub(crate) const ROW_WORDS: usize = 706;
 
-#[derive(Drop)]
+#[derive(Clone, Copy)]
 pub(crate) struct Stores {
     pub(crate) outer: [u64; TUPLE_WORDS],
     pub(crate) inner: [u64; TUPLE_WORDS],
@@ -13,7 +13,7 @@ pub(crate) struct Stores {
 }
 
 // Stores, and the state of the draws after them.
-#[derive(Drop)]
+#[derive(Clone, Copy)]
 pub(crate) struct Filled {
     pub(crate) stores: Stores,
     pub(crate) state: u64,
@@ -86,9 +86,7 @@ pub(crate) fn room(width: u64, capacity: u64) -> u64 {
 // Where the first lane begins that holds a record, from this lane on and round; where this lane begins if none does.
 pub(crate) fn held(words: &[u64], count: u64, lane: u64, room: u64) -> u64 {
     let mut place = total::times(lane, room);
-    let mut i = count;
-    while 0 < i {
-        i -= 1;
+    for i in (0..count).rev() {
         let base = total::times(total::rest(total::plus(lane, i), count), room);
         place = total::either(0 < total::word(words, base), base, place);
     }

@@ -6,7 +6,7 @@ use crate::{digest, stores, total};
 const CACHE_WORDS: usize = 264;
 
 // How many words of each cache are lent, and the word that it is full of.
-#[derive(Drop)]
+#[derive(Clone, Copy)]
 pub(crate) struct Caches {
     pub(crate) outer: u64,
     pub(crate) inner: u64,

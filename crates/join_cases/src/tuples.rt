@@ -79,7 +79,7 @@ fn drawn(p: Partitioning, d: &[u64], at: u64) -> Tuple {
 }
 
 // A pool of 8 tuples: the plan by which they are drawn, and the 7 numbers of each.
-#[derive(Drop)]
+#[derive(Clone, Copy)]
 pub(crate) struct Pool {
     pub(crate) plan: Partitioning,
     pub(crate) numbers: [u64; 56],

@@ -10,7 +10,7 @@ use interval::tuple::Tuple;
 use plan::Partitioning;
 
 // How often each number from 0 to 18 was answered.
-#[derive(Drop)]
+#[derive(Clone, Copy)]
 pub(crate) struct Tally {
     pub(crate) times: [u64; 19],
 }
@@ -23,7 +23,7 @@ pub(crate) fn none() -> Tally {
 // What goes from step to step: the stores, the plan in force, the state of the draws, the digest, how many calls were
 // accepted, how many steps ago the wall was opened, whether the order of its tuples can be told, and how often each
 // number was answered.
-#[derive(Drop)]
+#[derive(Clone, Copy)]
 pub(crate) struct Wall {
     pub(crate) stores: Stores,
     pub(crate) plan: Partitioning,
@@ -193,10 +193,8 @@ fn step(wall: Wall, pool: Pool) -> Wall {
 
 fn steps(start: Wall, pool: Pool) -> Wall {
     let mut wall = start;
-    let mut k: u64 = 0;
-    while k < 80 {
+    for _ in 0..80u64 {
         wall = step(wall, pool);
-        k += 1;
     }
     wall
 }

@@ -8,20 +8,20 @@ use plan::Partitioning;
 use question::Question;
 
 // What the call answered, and the questions after it.
-#[derive(Drop)]
+#[derive(Clone, Copy)]
 pub(crate) struct Asked {
     pub(crate) answer: Answer,
     pub(crate) questions: [Question; QUESTIONS],
 }
 
 // What the call on words answered, and the words after it.
-#[derive(Drop)]
+#[derive(Clone, Copy)]
 pub(crate) struct AskedWords {
     pub(crate) answer: Answer,
     pub(crate) words: [u64; WORDS],
 }
 
-// Asks the first n questions. The borrow checker does not cover a slice of structs: its proof is a walk by hand.
+// Asks the first n questions.
 pub(crate) fn ask(p: Partitioning, rows: &[u64], qs: [Question; QUESTIONS], n: usize) -> Asked
     requires { n ≤ 8 }
 {

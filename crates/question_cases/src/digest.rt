@@ -4,10 +4,8 @@ use checks::Answer;
 // All words in order.
 fn run(h: u64, words: &[u64]) -> u64 {
     let mut all = h;
-    let mut i: usize = 0;
-    while i < words.len() {
-        all = (all % 1_000_003 * 31 + words[i] % 1_000_003) % 1_000_003;
-        i += 1;
+    for w in words {
+        all = (all % 1_000_003 * 31 + *w % 1_000_003) % 1_000_003;
     }
     all
 }

@@ -1,7 +1,7 @@
 // Drawn numbers: a linear congruential generator modulo 2 to the 31, of whose states the upper 15 bits are used.
 
 // Drawn numbers, and the state after them.
-#[derive(Drop)]
+#[derive(Clone, Copy)]
 pub(crate) struct Drawn {
     pub(crate) numbers: [u64; 8],
     pub(crate) state: u64,
@@ -14,11 +14,9 @@ pub(crate) fn next(state: u64) -> u64 {
 // Fills the words with drawn numbers, and answers the state after them.
 pub(crate) fn fill(state: u64, words: &mut [u64]) -> u64 {
     let mut s = state;
-    let mut i: usize = 0;
-    while i < words.len() {
+    for w in words.iter_mut() {
         s = next(s);
-        words[i] = s / 65_536;
-        i += 1;
+        *w = s / 65_536;
     }
     s
 }

@@ -5,6 +5,8 @@
 //
 // All functions answer for any words: what would be too large is made small first (total), and a word past the end of a
 // slice is 0. So each is proved safe by little more than its loop's bound.
+#![tactic(auto)]
+
 mod asking;
 mod digest;
 mod draws;
@@ -14,15 +16,15 @@ mod stores;
 mod total;
 
 use checks::Answer;
-use libc::STDOUT_FILENO;
 use plan::Partitioning;
 use question::Question;
 use screens::QUESTIONS;
+use std::io;
 use stores::ROW_WORDS;
 
 // A list and what it is asked of: the plan and the words of the rows store that are lent, how many questions are asked
 // and how many words.
-#[derive(Drop)]
+#[derive(Clone, Copy)]
 struct Case {
     plan: Partitioning,
     rows: [u64; ROW_WORDS],
@@ -59,23 +61,22 @@ fn case_by(d: [u64; 20], state: u64) -> Case {
 }
 
 // A number and the text after it.
-fn print(n: u64, after: &[u8]) {
-    io::print_decimal(STDOUT_FILENO, n);
-    io::write_all(STDOUT_FILENO, after);
+fn print(rt: &impl Print, n: u64, after: &str) -> io::Result<()> {
+    print!(rt; "{n}{after}")
 }
 
 // The line of a list.
-fn line(seed: u64, digest: u64, one: Answer, other: Answer) {
-    print(seed, b",");
-    print(digest, b",");
-    print(one.number, b",");
-    print(one.examined, b",");
-    print(other.number, b",");
-    print(other.examined, b"\n");
+fn line(rt: &impl Print, seed: u64, digest: u64, one: Answer, other: Answer) -> io::Result<()> {
+    print(rt, seed, ",")?;
+    print(rt, digest, ",")?;
+    print(rt, one.number, ",")?;
+    print(rt, one.examined, ",")?;
+    print(rt, other.number, ",")?;
+    print(rt, other.examined, "\n")
 }
 
 // Asks a list in both forms.
-fn asked(seed: u64, c: Case) {
+fn asked(rt: &impl Print, seed: u64, c: Case) -> io::Result<()> {
     let p = c.plan;
     let rows = c.rows;
     let qs = c.questions;
@@ -88,16 +89,15 @@ fn asked(seed: u64, c: Case) {
     let left = screens::as_words(after);
     let words = w.words;
     let digest = digest::told(digest::told(seed, one, &left), other, &words);
-    line(seed, digest, one, other);
+    line(rt, seed, digest, one, other)
 }
 
 // The lists of the seeds from 1 to 700.
-fn main() {
-    let mut seed: u64 = 1;
-    while seed <= 700 {
+fn main(rt: HostRuntime) -> io::Result<()> {
+    for seed in 1..=700 {
         let mut d = [0u64; 20];
         let state = draws::fill(seed, &mut d);
-        asked(seed, case_by(d, state));
-        seed += 1;
+        asked(&rt, seed, case_by(d, state))?;
     }
+    Ok(())
 }

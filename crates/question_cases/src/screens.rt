@@ -111,13 +111,11 @@ pub(crate) fn drawn(
     };
     let mut qs = [none; QUESTIONS];
     let mut s = state;
-    let mut i: usize = 0;
-    while i < QUESTIONS {
+    for i in 0..QUESTIONS {
         let d = draws::eight(s);
         let numbers = d.numbers;
         qs[i] = question(p, rows, numbers, earliest);
         s = d.state;
-        i += 1;
     }
     qs
 }
@@ -125,12 +123,10 @@ pub(crate) fn drawn(
 // The questions as words, three each; the words after them are 0.
 pub(crate) fn as_words(qs: [Question; QUESTIONS]) -> [u64; WORDS] {
     let mut ws = [0u64; WORDS];
-    let mut i: usize = 0;
-    while i < 24 {
+    for i in 0..24 {
         let q = qs[i / 3];
         let words = [q.label, q.minute.0, q.answer];
         ws[i] = words[i % 3];
-        i += 1;
     }
     ws
 }

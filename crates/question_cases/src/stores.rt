@@ -55,13 +55,11 @@ fn add(words: &mut [u64], p: Partitioning, row: [u64; 5]) {
 // Adds up to n rows; one in four stands twice. Answers the state of the draws after them.
 pub(crate) fn fill(words: &mut [u64], p: Partitioning, state: u64, n: u64) -> u64 {
     let mut s = state;
-    let mut k: u64 = 0;
-    while k < n {
+    for k in 0..n {
         let d = draws::eight(s);
         let numbers = d.numbers;
         add(words, p, drawn_row(p, numbers));
         s = total::either(k % 4 == 3, s, d.state);
-        k += 1;
     }
     s
 }
