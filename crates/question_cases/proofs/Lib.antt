@@ -1,2 +1,0 @@
--- Laws that the proofs of the crate cite: questions side by side in memory.
-mod Elements
