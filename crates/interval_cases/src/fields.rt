@@ -12,7 +12,7 @@ struct Counts {
 }
 
 // Whether the crate takes the field for a label.
-fn is_label(answer: &LabelField) -> bool {
+fn is_label(answer: LabelField) -> bool {
     match answer {
         LabelField::Number(_) => true,
         LabelField::Malformed => false,
@@ -20,17 +20,17 @@ fn is_label(answer: &LabelField) -> bool {
 }
 
 // The number of the label, or 0 if the field is none.
-fn number_in(answer: &LabelField) -> u64 {
+fn number_in(answer: LabelField) -> u64 {
     match answer {
-        LabelField::Number(number) => *number,
+        LabelField::Number(number) => number,
         LabelField::Malformed => 0,
     }
 }
 
 // One field more. `wanted` is the number of the label that it is, or 0 if it is none; no label has the number 0.
 fn count(n: Counts, wanted: u64, answer: LabelField) -> Counts {
-    let label = is_label(&answer);
-    let number = number_in(&answer);
+    let label = is_label(answer);
+    let number = number_in(answer);
     Counts {
         cases: report::more(n.cases),
         wrong: report::more_unless((label == (0 < number)) & (number == wanted), n.wrong),

@@ -59,14 +59,14 @@ fn saw(w: Seen, span: Interval) -> bool {
 }
 
 // The answer is what the walk saw.
-fn agrees(w: Seen, answer: &Overlap) -> bool {
+fn agrees(w: Seen, answer: Overlap) -> bool {
     match answer {
-        Overlap::Common(span) => saw(w, *span),
+        Overlap::Common(span) => saw(w, span),
         Overlap::Nothing => w.found == 0,
     }
 }
 
-fn is_common(answer: &Overlap) -> bool {
+fn is_common(answer: Overlap) -> bool {
     match answer {
         Overlap::Common(_) => true,
         Overlap::Nothing => false,
@@ -76,8 +76,8 @@ fn is_common(answer: &Overlap) -> bool {
 fn count(n: Counts, w: Seen, answer: Overlap) -> Counts {
     Counts {
         cases: report::more(n.cases),
-        wrong: report::more_unless(agrees(w, &answer), n.wrong),
-        common: report::more_unless(!is_common(&answer), n.common),
+        wrong: report::more_unless(agrees(w, answer), n.wrong),
+        common: report::more_unless(!is_common(answer), n.common),
     }
 }
 
