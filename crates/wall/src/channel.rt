@@ -31,20 +31,13 @@ enum Written {
     Failed(i32),
 }
 
-// The system's number of an error. One that is not the system's has the number 0; the calls made here give none.
-fn number_of(error: io::Error) -> i32 {
-    match error.raw_os_error() {
-        Some(number) => number,
-        None => 0,
-    }
-}
-
-// What a read into or a write of `buffer` answered.
+// What a read into or a write of `buffer` answered. An error that is not the system's has no number, and counts as 0:
+// the calls made here answer none.
 fn answered(got: io::Result<usize>, buffer: &[u8]) -> Moved
     ensures { MovedWithin buffer.now result }
 {
     match got {
-        Err(error) => Moved::Failed(number_of(error)),
+        Err(error) => Moved::Failed(error.raw_os_error().unwrap_or(0)),
         Ok(count) => {
             let n = count.min(buffer.len());
             if n == 0 {
