@@ -4,6 +4,7 @@
 // is safe and ends, the calls of `stream` are those of the theorem, and none is refused. No contract can say what is
 // read or written.
 #![tactic(auto)]
+
 mod channel;
 
 ghost use Rattle.std.specs.Prelude.{◌*◌, ◌≤◌, length};
