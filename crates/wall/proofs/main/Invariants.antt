@@ -19,7 +19,7 @@ invariant-loop-turns l = record {
   rows : length l.rows ≡ wall_row_words;
   part : length l.part ≡ part_most;
   text : length l.text ≡ refusal_room * part_most + finish_room;
-  follows : Following l.reading (stores l.outer l.inner l.rows)
+  follows : Following l.reading (stores l.outer l.inner l.rows);
 }
 
 abbrev pub decreases-loop-turns : goal.decreases-loop-turns
