@@ -1,18 +1,23 @@
-// The system calls: a part of standard input, a text to standard output, and a failure told on standard error by one
-// line. An interrupted call is made again. A proved loop has to end, and nothing says that interruptions do, so they
-// are counted down from a number that no run uses up.
+// Standard input, output and error: a part of the input, a text to the output, and a failure told on standard error by
+// one line. Each read and each write of std is one system call, and nothing is buffered. An interrupted call is made
+// again. A proved loop has to end, and nothing says that interruptions do, so they are counted down from a number that
+// no run uses up.
 ghost use Rattle.std.specs.Prelude.{◌≡◌, ◌≤◌, pos, length, ◌≤ℤ◌};
 ghost use Rattle.text_buffer.specs.Buffer.{Put};
 ghost use Rattle.wall.specs.Channel.{MovedWithin, failure_line};
 
-use libc::{EINTR, STDERR_FILENO, STDIN_FILENO, STDOUT_FILENO};
 use lines::LINE_END;
+use std::io;
+use std::io::{Read, Stderr, Stdin, Stdout, Write};
 
 // The bytes that the line of a failure surely fits in.
 const FAILURE_BYTES: usize = 40;
 
+// The system's error number of a call that a signal interrupted, EINTR.
+const INTERRUPTED: i32 = 4;
+
 // What a call moved: bytes, at least one; none; or it failed, with the system's error number.
-#[derive(Drop)]
+#[derive(Clone, Copy)]
 pub(crate) enum Moved {
     Bytes(usize),
     Nothing,
@@ -20,72 +25,75 @@ pub(crate) enum Moved {
 }
 
 // What became of a text: it is written, or a call failed, with its error number.
-#[derive(Drop)]
+#[derive(Clone, Copy)]
 enum Written {
     All,
     Failed(i32),
 }
 
-// What a read into or a write of `buffer` answered. The error number is that of the call just before.
-fn answered(got: isize, buffer: &[u8]) -> Moved
+// What a read into or a write of `buffer` answered. An error that is not the system's has no number, and counts as 0:
+// the calls made here answer none.
+fn answered(got: io::Result<usize>, buffer: &[u8]) -> Moved
     ensures { MovedWithin buffer.now result }
 {
-    if got < 0 {
-        return Moved::Failed(os::errno());
+    match got {
+        Err(error) => Moved::Failed(error.raw_os_error().unwrap_or(0)),
+        Ok(count) => {
+            let n = count.min(buffer.len());
+            if n == 0 {
+                return Moved::Nothing;
+            }
+            Moved::Bytes(n)
+        }
     }
-    let n = io::count(got, buffer);
-    if n == 0 {
-        return Moved::Nothing;
-    }
-    Moved::Bytes(n)
 }
 
 // Whether a signal came before anything was moved.
 fn is_interrupted(moved: Moved) -> bool {
     match moved {
-        Moved::Failed(error) => error == EINTR,
+        Moved::Failed(error) => error == INTERRUPTED,
         Moved::Bytes(_) | Moved::Nothing => false,
     }
 }
 
-// Reads a part of standard input, nothing at its end.
-fn read_some(part: &mut [u8]) -> Moved
+// Reads a part of the input, nothing at its end.
+fn read_some<R: Read>(input: &mut R, part: &mut [u8]) -> Moved
     ensures { MovedWithin part.new result }
 {
     let mut turns = u64::MAX;
     while 0 < turns {
-        let got = libc::read(STDIN_FILENO, part);
+        let got = input.read(part);
         let moved = answered(got, part);
         if !is_interrupted(moved) {
             return moved;
         }
         turns -= 1;
     }
-    Moved::Failed(EINTR)
+    Moved::Failed(INTERRUPTED)
 }
 
 // Writes as much of the text as one call takes.
-fn write_some(fd: i32, text: &[u8]) -> Moved
+fn write_some<W: Write>(output: &mut W, text: &[u8]) -> Moved
     ensures { MovedWithin text.now result }
 {
     let mut turns = u64::MAX;
     while 0 < turns {
-        let got = libc::write(fd, text);
+        let got = output.write(text);
         let moved = answered(got, text);
         if !is_interrupted(moved) {
             return moved;
         }
         turns -= 1;
     }
-    Moved::Failed(EINTR)
+    Moved::Failed(INTERRUPTED)
 }
 
 // Writes all of the text, by further calls where one takes only a part. A call that takes nothing counts as failed,
 // with the number 0: the system gives none.
-fn write_all(fd: i32, text: &[u8]) -> Written {
+fn write_all<W: Write>(output: &mut W, text: &[u8]) -> Written {
     let mut from: usize = 0;
     while from < text.len() {
-        let moved = write_some(fd, &text[from..]);
+        let moved = write_some(output, &text[from..]);
         match moved {
             Moved::Bytes(n) => from += n,
             Moved::Nothing => return Written::Failed(0),
@@ -115,32 +123,32 @@ fn error_number(error: i32) -> u64
 }
 
 // Tells on standard error what failed, with its error number. Where that fails too, nothing is left to tell.
-fn tell(what: &[u8], error: i32)
+fn tell(mut stderr: Stderr, what: &[u8], error: i32)
     requires { length what.now ≤ 19 }
 {
     let mut line = [0u8; FAILURE_BYTES];
     let n = put_failure(&mut line, what, error_number(error));
-    write_all(STDERR_FILENO, &line[..n]);
+    write_all(&mut stderr, &line[..n]);
 }
 
 // Reads a part of standard input, nothing at its end. A failure is told.
-pub(crate) fn read_part(part: &mut [u8]) -> Moved
+pub(crate) fn read_part(mut stdin: Stdin, stderr: Stderr, part: &mut [u8]) -> Moved
     ensures { MovedWithin part.new result }
 {
-    let moved = read_some(part);
+    let moved = read_some(&mut stdin, part);
     if let Moved::Failed(error) = moved {
-        tell(b"wall: read: error ", error);
+        tell(stderr, b"wall: read: error ", error);
     }
     moved
 }
 
 // Prints a text, all of it; or tells a failure, and then answers false.
-pub(crate) fn print(text: &[u8]) -> bool {
-    let written = write_all(STDOUT_FILENO, text);
+pub(crate) fn print(mut stdout: Stdout, stderr: Stderr, text: &[u8]) -> bool {
+    let written = write_all(&mut stdout, text);
     match written {
         Written::All => true,
         Written::Failed(error) => {
-            tell(b"wall: write: error ", error);
+            tell(stderr, b"wall: write: error ", error);
             false
         }
     }

@@ -3,6 +3,8 @@
 // printed for what was read is a theorem of crate `program_text`; here only the system calls are made. Proved here: it
 // is safe and ends, the calls of `stream` are those of the theorem, and none is refused. No contract can say what is
 // read or written.
+#![tactic(auto)]
+
 mod channel;
 
 ghost use Rattle.std.specs.Prelude.{◌*◌, ◌≤◌, length};
@@ -52,7 +54,10 @@ fn end_text(reading: Reading, rows: &mut [u64], text: &mut [u8]) -> Finished
 
 // A proved loop has to end, and nothing says that the input does, so the parts are counted down from a number that no
 // run uses up.
-fn main() {
+fn main(rt: HostRuntime) {
+    let stdin = rt.stdin();
+    let stdout = rt.stdout();
+    let stderr = rt.stderr();
     let mut outer = [0u64; TUPLE_WORDS];
     let mut inner = [0u64; TUPLE_WORDS];
     let mut rows = [0u64; ROW_WORDS];
@@ -61,7 +66,7 @@ fn main() {
     let mut reading = stream::start();
     let mut turns = u64::MAX;
     while 0 < turns {
-        let moved = channel::read_part(&mut part);
+        let moved = channel::read_part(stdin, stderr, &mut part);
         let n = match moved {
             Moved::Bytes(n) => n,
             Moved::Nothing => break,
@@ -76,7 +81,7 @@ fn main() {
             &mut text,
         );
         let bytes = taken.bytes;
-        if !channel::print(&text[..bytes]) {
+        if !channel::print(stdout, stderr, &text[..bytes]) {
             return;
         }
         let next = taken.reading;
@@ -85,5 +90,5 @@ fn main() {
     }
     let end = end_text(reading, &mut rows, &mut text);
     let bytes = end.bytes;
-    channel::print(&text[..bytes]);
+    channel::print(stdout, stderr, &text[..bytes]);
 }
