@@ -2,6 +2,8 @@
 // lengths of what it is lent beside the stores. include/ruthgarwy.h has it for C; the definitions are in
 // specs/Layout.antt.
 // A reader or writer of a plan asks for its length by a `requires`; a call tests it first.
+#![tactic(auto)]
+
 ghost use Rattle.std.specs.Prelude.{[], ◌∷◌, ◌++◌, ◌≡◌, ◌+◌, ◌≤◌, length, take, drop};
 ghost use Rattle.interval.specs.Tuple.{tuple};
 ghost use Rattle.plan.specs.Plan.{most_partitions, numbers};

@@ -2,6 +2,8 @@
 // report behind it, or `rows,0` where there is no complete plan. The refusal is put into a buffer of its own first, and
 // then in front of what follows it. The functions ask for room by a `requires`, which `stream::finish` may not have.
 // The definitions are in specs/Ending.antt. Cost: that of the report; each byte of the refusal is copied once.
+#![tactic(auto)]
+
 ghost use Rattle.std.specs.Prelude.{◌++◌, ◌+◌, ◌≤◌, length};
 ghost use Rattle.text_buffer.specs.Buffer.{Put};
 ghost use Rattle.refusal_text.specs.Refusals.{refusal_room};

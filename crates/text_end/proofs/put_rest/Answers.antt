@@ -10,9 +10,7 @@ use Rattle.text_buffer.proofs.Writing.{put-none}
 use Rattle.refusal_text.specs.Refusals.{refusal_line, next_line}
 use Rattle.refusal_text.proofs.Refusals.{refusal-fits}
 use Rattle.text_end.specs.Ending.{rest_refusal}
-use borrow.Author.Rules.{rules}
-use Rattle.text_end.proofs.put_rest.Statement.{statement}
-use Rattle.text_end.proofs.put_rest.Tie as tie
+use Rattle.text_end.proofs.put_rest.Goals as goal
 
 none : (n kept : ℕ) (out : List ℕ) → kept ≡ 0 → Put 0 (rest_refusal n kept) out out 0
 unfolding rest_refusal
@@ -25,23 +23,11 @@ some n zero line out out' r ne e p = absurd (ne refl)
 some n (suc kept) line out out' r ne e p =
     subst (λ (i : ℕ). Put 0 (refusal_line i (line_number Malformed)) out out' r) e p
 
-returns : tie.Need-returns
-returns c = none _ _ _ c.if1.true
+pub returns-then-kept-eq0 : goal.returns-then-kept-eq0
+returns-then-kept-eq0 c = none _ _ _ c.if-kept-eq0.true
 
-next-line-requires : tie.Need-next-line-requires
-next-line-requires c κs = search rules
+pub put_refusal-requires : goal.put_refusal-requires
+put_refusal-requires c = refusal-fits 0 _ _ _ c.requires
 
-put-refusal-requires : tie.Need-put-refusal-requires
-put-refusal-requires c κs = refusal-fits 0 _ _ _ c.before.before.before.before.requires
-
-same_length : tie.Need-same-length
-same_length c = search rules
-
-returns-2 : tie.Need-returns-2
-returns-2 c =
-    let p = c.before.before in
-    let n = p.before.before in
-    some _ _ _ _ _ _ n.before.if1.false n.next-line.ensures p.put-refusal.ensures
-
-pub put-rest-spec : {M : Type 1} → statement M
-put-rest-spec = tie.close (tie.spec returns next-line-requires put-refusal-requires same_length returns-2)
+pub returns : goal.returns
+returns c = some _ _ _ _ _ _ c.if-kept-eq0.false c.next_line-line.ensures c.put_refusal.ensures
