@@ -156,6 +156,7 @@ pub few-gaps : FewGaps
 unfolding gaps_of minutes_of left
 few-gaps d rs = most (covered rs (from d)) (few-left rs (minutes_in d.valid) (from d))
   where
-    most : (b : Bool) → length (gaps_of d rs) ≤ pick b 0 1 + ends_by (from d) rs → length (gaps_of d rs) ≤ suc (length rs)
+    most : (b : Bool) → length (gaps_of d rs) ≤ pick b 0 1 + ends_by (from d) rs
+        → length (gaps_of d rs) ≤ suc (length rs)
     most true h = omega (arith, tally-le (λ r. leb (from d) (row_to r)) rs)
     most false h = omega (arith, tally-le (λ r. leb (from d) (row_to r)) rs)

@@ -300,7 +300,8 @@ module _ (v w : Interval) (vs ws : List Interval) (o : Ordered (v ∷ vs)) (p : 
       itself q = omega (arith, ordered-later v vs o v (rw q at h))
 
 same_rest : (v w : Interval) (vs ws : List Interval) → Ordered (v ∷ vs) → Ordered (w ∷ ws) → v ≡ w → (u : Interval)
-    → any (same_interval u) (v ∷ vs) ≡ any (same_interval u) (w ∷ ws) → any (same_interval u) vs ≡ any (same_interval u) ws
+    → any (same_interval u) (v ∷ vs) ≡ any (same_interval u) (w ∷ ws)
+    → any (same_interval u) vs ≡ any (same_interval u) ws
 same_rest v w vs ws o p e u h =
     same_test (any (same_interval u) vs) (any (same_interval u) ws)
     (λ k. same-later v w vs ws o p e u k (sym h ∙ or_right (same_interval u v) (any (same_interval u) vs) k))

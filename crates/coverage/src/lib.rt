@@ -4,6 +4,8 @@
 // nothing from there on. No memory is kept between two scans. The functions ask by their `requires` what a plan and a
 // store that passed checks 1 to 5 give.
 // The definitions are in specs/: Gaps (covered minutes, the gaps of a tuple), Longest (what they are), NextCovered.
+#![tactic(auto)]
+
 ghost use Rattle.std.specs.Prelude.{true, ◌≡◌, ◌-◌, ◌*◌, ◌≤◌, length};
 ghost use Rattle.interval.specs.Time.{calendar_end};
 ghost use Rattle.interval.specs.Tuple.{tuple_width, to};

@@ -99,8 +99,8 @@ lists =
 
 lists-hold : map (λ (c : Wall × List Tuple). gaps c.0.0 c.0.1 c.0.2) lists
     ≡ map (λ (c : Wall × List Tuple). c.1) lists
-unfolding gaps gaps_by gaps_of stretches minutes_of covered contains join_of rows_of_pair overlap durability durable same_label
-    counted records_in tuples_in stored_tuples
+unfolding gaps gaps_by gaps_of stretches minutes_of covered contains join_of rows_of_pair overlap durability durable
+    same_label counted records_in tuples_in stored_tuples
 lists-hold = refl
 
 -- ---- numbers: 1 to 3 and 18 for the plan, 4 and 5 for each store, 19 for the buffer; the first that applies
@@ -137,8 +137,9 @@ numbers =
 
 numbers-hold : map (λ (c : Wall × ℕ × ℕ). gaps_number c.0.0 c.0.1 c.0.2 c.1) numbers
     ≡ map (λ (c : Wall × ℕ × ℕ). c.2) numbers
-unfolding gaps_number sides_number sides_lengths tuples_length sides_unsound tuples_unsound room_check first_of fits_tuples
-    legal_plan plan_number minimum_check cuts_of cover sound_tuples sound_tuple_part sound_part tuple_at_home legal_tuple
-    tuple_number label_check item_check valid_check home home_of gaps gaps_by gaps_of stretches minutes_of covered contains
-    join_of rows_of_pair overlap durability durable same_label counted records_in tuples_in stored_tuples
+unfolding gaps_number sides_number sides_lengths tuples_length sides_unsound tuples_unsound room_check first_of
+    fits_tuples legal_plan plan_number minimum_check cuts_of cover sound_tuples sound_tuple_part sound_part
+    tuple_at_home legal_tuple tuple_number label_check item_check valid_check home home_of gaps gaps_by gaps_of
+    stretches minutes_of covered contains join_of rows_of_pair overlap durability durable same_label counted
+    records_in tuples_in stored_tuples
 numbers-hold = refl

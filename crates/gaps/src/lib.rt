@@ -2,10 +2,12 @@
 // interval that no row it makes covers, as records of a tuple's words in a lent buffer.
 //
 // Nothing has to be checked before calling, and a refusal changes no word. The rows store is not looked at: the rows
-// are those of the join, by the plan's minimum. No memory but the lent buffer: the minutes of a drawing are gone through
-// from the left, with one scan of the spots for each covered stretch. All drawings are gone through twice, first with
-// no buffer, which counts the records for check 19, then with the lent one, which writes them.
+// are those of the join, by the plan's minimum. No memory but the lent buffer: the minutes of a drawing are gone
+// through from the left, with one scan of the spots for each covered stretch. All drawings are gone through twice,
+// first with no buffer, which counts the records for check 19, then with the lent one, which writes them.
 // The definitions are in specs/: Listed (the call), Joined (what it says of the join), Placing (the steps).
+#![tactic(auto)]
+
 ghost use Rattle.std.specs.Prelude.{true, [], ◌∷◌, ◌≡◌, ◌+◌, ◌*◌, ◌≤◌, length};
 ghost use Rattle.std.specs.Int.{w64};
 ghost use Rattle.std.proofs.Common.{Fits};

@@ -68,9 +68,9 @@ crowd =
 
 -- both are sound stores: no check of 1 to 5 applies
 sound-hold : (rows_number example_plan example ≡ 0) × (rows_number crowd_plan crowd ≡ 0)
-unfolding rows_number plan_number first_of cover cuts_of minimum_check rows_length fits_rows legal_plan rows_unsound sound_rows
-    sound_row_part sound_part row_at_home legal_row row_number label_check item_check valid_check durable durability counted
-    records_in home home_of
+unfolding rows_number plan_number first_of cover cuts_of minimum_check rows_length fits_rows legal_plan rows_unsound
+    sound_rows sound_row_part sound_part row_at_home legal_row row_number label_check item_check valid_check durable
+    durability counted records_in home home_of
 sound-hold = (refl, refl)
 
 -- ---- answers

@@ -134,7 +134,7 @@ numbers =
     ∷ []))))))))))))))))))))))
 
 numbers-hold : map (λ (c : Case). words_number c.0 c.1 c.2) numbers ≡ map (λ (c : Case). c.3) numbers
-unfolding words_number whole_check plan_number first_of cover cuts_of minimum_check rows_length fits_rows legal_plan rows_unsound
-    sound_rows sound_row_part sound_part row_at_home legal_row row_number label_check item_check valid_check durable durability
-    counted records_in home home_of
+unfolding words_number whole_check plan_number first_of cover cuts_of minimum_check rows_length fits_rows legal_plan
+    rows_unsound sound_rows sound_row_part sound_part row_at_home legal_row row_number label_check item_check
+    valid_check durable durability counted records_in home home_of
 numbers-hold = refl

@@ -24,8 +24,8 @@ pub legal-plan : (p : Partitioning) (rows : List ℕ) → rows_number p rows ≡
 legal-plan p rows e = (sound-store p rows e).legal
 
 -- the scan of the questions' window
-pub window-scan : (p : Partitioning) (qs : List Question) (v : Interval) → v ≡ window_of qs → (s : Scan) → s ≡ scan_of p v
-    → s ≡ scan_of p (window_of qs)
+pub window-scan : (p : Partitioning) (qs : List Question) (v : Interval) → v ≡ window_of qs
+    → (s : Scan) → s ≡ scan_of p v → s ≡ scan_of p (window_of qs)
 window-scan p qs v e s f = f ∙ ap (scan_of p) e
 
 module _ (p : Partitioning) (rows : List ℕ) (known : rows_number p rows ≡ 0) (qs : List Question) (s : Scan)
