@@ -1146,7 +1146,7 @@ def as_rust(text, crate, names):
     text = re.sub(r'(?m)^fn main\(', 'pub fn main(', text)
     return f'use crate::io::{{HostRuntime, Print}};\n{text}'
 
-# All files as Rust, by their paths. There is no start of std's, so that signals are as a program in C has them.
+# All files as Rust, by their paths. There is no start of std's; like Rattle's start, this one ignores SIGPIPE (13).
 def sources(program, edit=None):
     names = crates(program)
     files = {}
@@ -1161,7 +1161,8 @@ def sources(program, edit=None):
             name = 'mod' if path.stem in ('lib', 'main') else path.stem
             files[f'{crate}/{name}.rs'] = as_rust(text, crate, names)
     mods = ''.join(f'pub mod {crate};\n' for crate in names)
-    start = (f'#[no_mangle]\npub extern "C" fn main() -> i32 {{\n'
+    start = (f'extern "C" {{ fn signal(number: i32, handler: usize) -> usize; }}\n'
+             f'#[no_mangle]\npub extern "C" fn main() -> i32 {{\n    unsafe {{ signal(13, 1); }}\n'
              f'    io::Ends::status({program}::main(io::HostRuntime))\n}}\n')
     files['main.rs'] = f'#![allow(warnings)]\n#![no_main]\n{MACROS}{mods}{STAND_INS}\n{start}'
     return files
