@@ -62,10 +62,15 @@ holding-same ts s s' S S' h e = rw (e.0, e.1) h
 holding-told : (c : Call) (n : ℕ) (ts : List Told) (s : Session) (S : Stores) → (n ≡ 0 → ⊥) → Holding ts s S
     → Holding (record { call = c; number = n } ∷ ts) s S
 holding-told c n ts s S ne h = record {
-  early = λ e p. machine-next p _ ts (first p) (first p) (h.early e p) (told-refused c n (first p) ne);
+  early = λ e p.
+      machine-next p (record { call = c; number = n }) ts (first p) (first p) (h.early e p)
+      (told-refused c n (first p) ne);
   late = λ e.
-      let k = h.late e in
-      (k.0, machine-next (plan_of s) _ ts k.0 k.0 k.1 (told-refused c n k.0 ne), k.2);
+      let k = h.late e in (
+        k.0,
+        machine-next (plan_of s) (record { call = c; number = n }) ts k.0 k.0 k.1 (told-refused c n k.0 ne),
+        k.2,
+      );
 }
 
 -- the call that a word asks for is one of demand 3
@@ -110,7 +115,7 @@ module _ (s : Session) (w : Word) (t : Tuple) (S S' : Stores) (ts : List Told) (
       let d = change-done s w t S S' k.0 k.2 c in
       let same : n ≡ c.answer.number = z ∙ sym c.number in (
         d.after,
-        machine-next (plan_of s) _ ts k.0 d.after k.1
+        machine-next (plan_of s) (record { call = call_of w t; number = n }) ts k.0 d.after k.1
             (ap (λ (i : ℕ). told (record { call = call_of w t; number = i }) k.0) same ∙ d.machine),
         d.kept,
       )
