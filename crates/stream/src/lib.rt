@@ -6,6 +6,8 @@
 // and leave); the text of a refusal is in crate `refusal_text`, the pieces of the end in `text_end`. That what is
 // written for all parts is the text of the input is a theorem of crate `program_text`. Cost: that of the session's
 // steps; each byte is compared once, and copied once where it is kept.
+#![tactic(auto)]
+
 ghost use Rattle.std.specs.Prelude.{◌≡◌, ◌+◌, ◌-◌, ◌*◌, ◌≤◌, min, length};
 ghost use Rattle.checks.specs.Stores.{stores};
 ghost use Rattle.refusal_text.specs.Refusals.{refusal_room};

@@ -1,0 +1,42 @@
+-- `stream::end_line` meets its contract.
+-- Assumes nothing.
+use mathlib.Core.List.{List}
+use mathlib.Core.Path.{◌≡◌, refl, sym, ◌∙◌, ap, subst}
+use Prim.Native.Nat.{ℕ}
+use native.Mathlib.Omega.{arith}
+use lib.Seq.{length-take-le}
+use Rattle.text_buffer.specs.Buffer.{Put}
+use Rattle.refusal_text.specs.Refusals.{answer_text}
+use Rattle.stream.specs.Taking.{between_lines}
+use Rattle.stream.proofs.Keeping.{Fits}
+use Rattle.stream.proofs.end_line.Goals as goal
+
+as-next : (at n m k : ℕ) (out out' : List ℕ) (r : ℕ) → n ≡ m → Put at (answer_text n k) out out' r
+    → Put at (answer_text m k) out out' r
+as-next at n m k out out' r e p = subst (λ (i : ℕ). Put at (answer_text i k) out out' r) e p
+
+pub slice_bounds-line-end : goal.slice_bounds-line-end
+slice_bounds-line-end c =
+    let fits : Fits c.args.s =
+    record { most = c.requires.kept_le_kept_most; long = c.well_formed.0.1.1.1.1.1.0.1.0.1 } in
+    let f = fits in
+    omega arith
+
+pub slice_bounds-step-end : goal.slice_bounds-step-end
+slice_bounds-step-end c =
+    let fits : Fits c.args.s =
+    record { most = c.requires.kept_le_kept_most; long = c.well_formed.0.1.1.1.1.1.0.1.0.1 } in
+    let f = fits in
+    sym (length-take-le c.args.s.kept c.args.s.line (omega arith))
+
+pub returns : goal.returns
+returns c =
+    record {
+      stepped = c.step-stepped.result;
+      step = c.step-stepped.ensures;
+      number = refl;
+      reading =
+          c.between_lines-reading.ensures
+          ∙ ap (between_lines c.step-stepped.result.session) c.next_line-lines.ensures;
+      text = as-next _ _ _ _ _ _ _ c.next_line-lines.ensures c.put_answer-bytes.ensures;
+    }
