@@ -99,9 +99,10 @@ put_number-last-requires c =
 pub put_number-requires : goal.put_number-requires
 put_number-requires c =
     let a = c.args in
-    room a.at a.partition a.row a.out.now c.requires _ (ended (digits_of a.row.valid.last.0) line_end) ([]) _
+    room a.at a.partition a.row a.out.now c.requires _ (ended (digits_of a.row.valid.last.0) line_end) [] _
     (first-put a.at a.partition a.row a.out.now c.requires
-    c.put_number-label.ensures c.put_label-drawing.ensures c.put_number-spot.ensures c.put_number-first.ensures c.put_number-last.ensures)
+    c.put_number-label.ensures c.put_label-drawing.ensures c.put_number-spot.ensures
+    c.put_number-first.ensures c.put_number-last.ensures)
 
 pub returns : goal.returns
 returns c =
@@ -110,5 +111,6 @@ returns c =
     (more a.at a.partition a.row a.out.now c.requires c.put_number-last.result
     (ended (digits_of a.row.valid.last.0) line_end) [] _ _ _
     (first-put a.at a.partition a.row a.out.now c.requires
-    c.put_number-label.ensures c.put_label-drawing.ensures c.put_number-spot.ensures c.put_number-first.ensures c.put_number-last.ensures)
+    c.put_number-label.ensures c.put_label-drawing.ensures c.put_number-spot.ensures
+    c.put_number-first.ensures c.put_number-last.ensures)
     c.put_number.ensures)
