@@ -9,6 +9,8 @@
 // questions. The answer's words are written by every call that is lent as many; every other buffer only where a call is
 // accepted.
 // Nothing has to be checked before calling; each slice is an address and a length in words.
+#![tactic(auto)]
+
 ghost use Rattle.interval.specs.Tuple.{tuple};
 ghost use Rattle.join.specs.declared.Kind.TheVariants.{Insert, Delete};
 ghost use Rattle.layout.specs.Layout.{side_of};
