@@ -13,7 +13,6 @@ use Rattle.interval.specs.Tuple.{tuple, row, item_check, valid_check, tuple_numb
 use Rattle.interval.specs.Tuple.{same_interval, same_tuple, same_row, tuple_words, tuple_of, row_words, row_of}
 use Rattle.interval.specs.declared.time.Interval.{Interval}
 use Rattle.interval.specs.declared.tuple.Tuple.{Tuple}
-use Rattle.interval.specs.declared.tuple.Row.{Row}
 
 -- P2: spans 1–5 and 5–9 overlap in 5–5
 p2 : overlap (span 1 5) (span 5 9) ≡ span 5 5 ∷ []

@@ -110,6 +110,7 @@ pub fn row_number(row: Row) -> u64
 }
 
 // Whether a row passes its checks and lasts at least `minimum` minutes.
+#[tactic(auto, unfolding(crate::specs::Tuple::legal_row))]
 pub fn legal_row(minimum: u64, row: Row) -> bool
     ensures { result ≡ legal_row minimum row }
 {

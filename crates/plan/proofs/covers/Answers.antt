@@ -17,14 +17,26 @@ returns-then-count-lt1 c = let none : c.args.count ≡ 0 = omega arith in rw non
 
 pub loop-i-init : goal.loop-i-init
 loop-i-init c =
+    let used-is : c.if-count-lt-MOST_PARTITIONS.used ≡ min c.args.count most_partitions =
+    (elim c.if-count-lt-MOST_PARTITIONS.branch [
+      | then-count-lt-MOST_PARTITIONS w ↦ omega arith
+      | else-count-lt-MOST_PARTITIONS w ↦ omega arith
+    ]) in
     let long : length c.args.lasts ≡ most_partitions = omega arith in
-    rising-start c.args.lasts c.if-count-lt-MOST_PARTITIONS.used long (omega (arith, (let used-is : c.if-count-lt-MOST_PARTITIONS.used ≡ min c.args.count most_partitions = (elim c.if-count-lt-MOST_PARTITIONS.branch [ then-count-lt-MOST_PARTITIONS w ↦ omega arith | else-count-lt-MOST_PARTITIONS w ↦ omega arith ]) in used-is))) (omega (arith, (let used-is : c.if-count-lt-MOST_PARTITIONS.used ≡ min c.args.count most_partitions = (elim c.if-count-lt-MOST_PARTITIONS.branch [ then-count-lt-MOST_PARTITIONS w ↦ omega arith | else-count-lt-MOST_PARTITIONS w ↦ omega arith ]) in used-is)))
+    rising-start c.args.lasts c.if-count-lt-MOST_PARTITIONS.used long (omega (arith, used-is)) (omega (arith, used-is))
 
 pub returns-then-next-last : goal.returns-then-next-last
 returns-then-next-last c =
+    let used-is : c.if-count-lt-MOST_PARTITIONS.used ≡ min c.args.count most_partitions =
+    (elim c.if-count-lt-MOST_PARTITIONS.branch [
+      | then-count-lt-MOST_PARTITIONS w ↦ omega arith
+      | else-count-lt-MOST_PARTITIONS w ↦ omega arith
+    ]) in
+    let same-cuts : let a = c.args in in_use c.if-count-lt-MOST_PARTITIONS.used a.lasts ≡ in_use a.count a.lasts =
+    let a = c.args in in-use-is a.count c.if-count-lt-MOST_PARTITIONS.used a.lasts (omega arith) used-is in
     rising-stop c.args.lasts c.if-count-lt-MOST_PARTITIONS.used c.loop-i.i c.loop-i.invariant
     c.loop-i-test.true c.if-next-last.true
-    ∙ ap cover (let same-cuts : let a = c.args in in_use c.if-count-lt-MOST_PARTITIONS.used a.lasts ≡ in_use a.count a.lasts = let a = c.args in in-use-is a.count c.if-count-lt-MOST_PARTITIONS.used a.lasts (omega arith) (let used-is : c.if-count-lt-MOST_PARTITIONS.used ≡ min c.args.count most_partitions = (elim c.if-count-lt-MOST_PARTITIONS.branch [ then-count-lt-MOST_PARTITIONS w ↦ omega arith | else-count-lt-MOST_PARTITIONS w ↦ omega arith ]) in used-is) in same-cuts)
+    ∙ ap cover same-cuts
 
 pub loop-i-preserved : goal.loop-i-preserved
 loop-i-preserved c =
@@ -33,6 +45,13 @@ loop-i-preserved c =
 
 pub returns : goal.returns
 returns c =
+    let used-is : c.if-count-lt-MOST_PARTITIONS.used ≡ min c.args.count most_partitions =
+    (elim c.if-count-lt-MOST_PARTITIONS.branch [
+      | then-count-lt-MOST_PARTITIONS w ↦ omega arith
+      | else-count-lt-MOST_PARTITIONS w ↦ omega arith
+    ]) in
+    let same-cuts : let a = c.args in in_use c.if-count-lt-MOST_PARTITIONS.used a.lasts ≡ in_use a.count a.lasts =
+    let a = c.args in in-use-is a.count c.if-count-lt-MOST_PARTITIONS.used a.lasts (omega arith) used-is in
     rising-end c.args.lasts c.if-count-lt-MOST_PARTITIONS.used c.loop-i.i c.loop-i.invariant
     c.loop-i-test.false
-    ∙ ap cover (let same-cuts : let a = c.args in in_use c.if-count-lt-MOST_PARTITIONS.used a.lasts ≡ in_use a.count a.lasts = let a = c.args in in-use-is a.count c.if-count-lt-MOST_PARTITIONS.used a.lasts (omega arith) (let used-is : c.if-count-lt-MOST_PARTITIONS.used ≡ min c.args.count most_partitions = (elim c.if-count-lt-MOST_PARTITIONS.branch [ then-count-lt-MOST_PARTITIONS w ↦ omega arith | else-count-lt-MOST_PARTITIONS w ↦ omega arith ]) in used-is) in same-cuts)
+    ∙ ap cover same-cuts

@@ -13,16 +13,29 @@ use Rattle.plan.proofs.home.Goals as goal
 
 pub loop-i-init : goal.loop-i-init
 loop-i-init c =
+    let used-is : c.if-p-lt-MOST_PARTITIONS.used ≡ min c.args.p.count most_partitions =
+    (elim c.if-p-lt-MOST_PARTITIONS.branch [
+      | then-p-lt-MOST_PARTITIONS w ↦ omega arith
+      | else-p-lt-MOST_PARTITIONS w ↦ omega arith
+    ]) in
     let a = c.args in
-    sought-start a.p.lasts a.m.0 c.if-p-lt-MOST_PARTITIONS.used c.well_formed.0.1.1.1.0.1.0.1 (omega (arith, (let used-is : c.if-p-lt-MOST_PARTITIONS.used ≡ min c.args.p.count most_partitions = (elim c.if-p-lt-MOST_PARTITIONS.branch [ then-p-lt-MOST_PARTITIONS w ↦ omega arith | else-p-lt-MOST_PARTITIONS w ↦ omega arith ]) in used-is)))
+    sought-start a.p.lasts a.m.0 c.if-p-lt-MOST_PARTITIONS.used c.well_formed.0.1.1.1.0.1.0.1 (omega (arith, used-is))
 
 pub returns-then-m-last : goal.returns-then-m-last
 unfolding home cuts_of
 returns-then-m-last c =
+    let used-is : c.if-p-lt-MOST_PARTITIONS.used ≡ min c.args.p.count most_partitions =
+    (elim c.if-p-lt-MOST_PARTITIONS.branch [
+      | then-p-lt-MOST_PARTITIONS w ↦ omega arith
+      | else-p-lt-MOST_PARTITIONS w ↦ omega arith
+    ]) in
+    let same-cuts : in_use c.if-p-lt-MOST_PARTITIONS.used c.args.p.lasts ≡ cuts_of c.args.p =
+    let p = c.args.p in
+    in-use-is p.count c.if-p-lt-MOST_PARTITIONS.used p.lasts c.well_formed.0.1.1.1.0.1.0.1 used-is in
     let a = c.args in
     sought-stop a.p.lasts a.m.0 c.if-p-lt-MOST_PARTITIONS.used c.loop-i.i c.loop-i.invariant
     c.loop-i-test.true c.if-m-last.true
-    ∙ ap (λ (cs : List ℕ). home_of cs a.m.0) (let same-cuts : in_use c.if-p-lt-MOST_PARTITIONS.used c.args.p.lasts ≡ cuts_of c.args.p = let p = c.args.p in in-use-is p.count c.if-p-lt-MOST_PARTITIONS.used p.lasts c.well_formed.0.1.1.1.0.1.0.1 (let used-is : c.if-p-lt-MOST_PARTITIONS.used ≡ min c.args.p.count most_partitions = (elim c.if-p-lt-MOST_PARTITIONS.branch [ then-p-lt-MOST_PARTITIONS w ↦ omega arith | else-p-lt-MOST_PARTITIONS w ↦ omega arith ]) in used-is) in same-cuts)
+    ∙ ap (λ (cs : List ℕ). home_of cs a.m.0) same-cuts
 
 pub loop-i-preserved : goal.loop-i-preserved
 loop-i-preserved c =
@@ -33,6 +46,14 @@ loop-i-preserved c =
 pub returns : goal.returns
 unfolding home cuts_of
 returns c =
+    let used-is : c.if-p-lt-MOST_PARTITIONS.used ≡ min c.args.p.count most_partitions =
+    (elim c.if-p-lt-MOST_PARTITIONS.branch [
+      | then-p-lt-MOST_PARTITIONS w ↦ omega arith
+      | else-p-lt-MOST_PARTITIONS w ↦ omega arith
+    ]) in
+    let same-cuts : in_use c.if-p-lt-MOST_PARTITIONS.used c.args.p.lasts ≡ cuts_of c.args.p =
+    let p = c.args.p in
+    in-use-is p.count c.if-p-lt-MOST_PARTITIONS.used p.lasts c.well_formed.0.1.1.1.0.1.0.1 used-is in
     let a = c.args in
     sought-end a.p.lasts a.m.0 c.if-p-lt-MOST_PARTITIONS.used c.loop-i.i c.loop-i.invariant c.loop-i-test.false
-    ∙ ap (λ (cs : List ℕ). home_of cs a.m.0) (let same-cuts : in_use c.if-p-lt-MOST_PARTITIONS.used c.args.p.lasts ≡ cuts_of c.args.p = let p = c.args.p in in-use-is p.count c.if-p-lt-MOST_PARTITIONS.used p.lasts c.well_formed.0.1.1.1.0.1.0.1 (let used-is : c.if-p-lt-MOST_PARTITIONS.used ≡ min c.args.p.count most_partitions = (elim c.if-p-lt-MOST_PARTITIONS.branch [ then-p-lt-MOST_PARTITIONS w ↦ omega arith | else-p-lt-MOST_PARTITIONS w ↦ omega arith ]) in used-is) in same-cuts)
+    ∙ ap (λ (cs : List ℕ). home_of cs a.m.0) same-cuts

@@ -2,7 +2,6 @@
 -- Assumes nothing.
 use borrow.Author.Tests.{eq-eqb, ne_eqb}
 use Rattle.interval.specs.Tuple.{same_row}
-use borrow.Author.Rules.{rules}
 use Rattle.interval.proofs.tuple.same_row.Goals as goal
 
 pub returns-then-r-s : goal.returns-then-r-s

@@ -2,7 +2,6 @@
 -- Assumes nothing.
 use borrow.Author.Tests.{eq-eqb, ne_eqb}
 use Rattle.interval.specs.Tuple.{same_tuple}
-use borrow.Author.Rules.{rules}
 use Rattle.interval.proofs.tuple.same_tuple.Goals as goal
 
 pub returns-then-a-b : goal.returns-then-a-b

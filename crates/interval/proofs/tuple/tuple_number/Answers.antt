@@ -2,7 +2,6 @@
 -- Assumes nothing.
 use Rattle.lists.proofs.Choice.{answer-here, answer-next, answer-last}
 use Rattle.interval.specs.Tuple.{tuple_number}
-use borrow.Author.Rules.{rules}
 use Rattle.interval.proofs.tuple.tuple_number.Goals as goal
 
 pub returns-then-label-ne0 : goal.returns-then-label-ne0
