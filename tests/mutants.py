@@ -1,10 +1,11 @@
 # Shows that the test programs join_cases, interval_cases and question_cases and the tests of the program wall can fail.
-# The sources of a program and of the crates it uses are taken as Rust: the ghost lines, the promises and the tactics
-# go, declared types become Copy, the host's handles and std::io become a few lines over Rust's std and the C library.
+# The sources of a program and of the crates it uses are taken as Rust: what is ghost, the promises and the tactics go,
+# declared types become Copy, the host's handles and std::io become a few lines over Rust's std and the C library.
 # The unchanged build must pass: the test programs write what their file stdout says, and wall is content for
-# tests/wall_failures.py and some sessions of tests/wall_sessions.py. Then each wrong edit below is built by itself, and must not pass, stop with an error or not
-# end. Prints 'mutants: N caught, 0 missed'; exit 1 if one is missed, 2 if the test could not be made. Needs python3 and
-# rustc, works from any folder and leaves nothing behind. It says nothing of the proofs.
+# tests/wall_failures.py and some sessions of tests/wall_sessions.py. Then each wrong edit below is built by itself, and
+# must not pass, stop with an error or not end. Prints 'mutants: N caught, 0 missed'; exit 1 if one is missed, 2 if the
+# test could not be made. Needs python3 and rustc, works from any folder and leaves nothing behind. It says nothing of
+# the proofs.
 from concurrent.futures import ThreadPoolExecutor
 from pathlib import Path
 import os
@@ -26,8 +27,8 @@ CALLS = [
     ('rows/lib.rt', 'outer: outer.item,', 'outer: inner.item,'),
     ('rows/lib.rt', 'Side::Inner => join_pair(minimum, u, t),', 'Side::Inner => join_pair(minimum, t, u),'),
     ('interval/time.rt', 'if last.0 < first.0 {', 'if last.0 <= first.0 {'),
-    ('interval/time.rt', 'if a.0 < b.0 { b } else { a }', 'if a.0 < b.0 { a } else { b }'),
-    ('interval/time.rt', 'if b.0 < a.0 { b } else { a }', 'a'),
+    ('interval/time.rt', 'a.0.max(b.0)', 'a.0.min(b.0)'),
+    ('interval/time.rt', 'Chronon(a.0.min(b.0))', 'a'),
     # the minimum: how long an overlap lasts
     ('interval/time.rt', 'minimum - 1 <= v.last.0 - v.first.0', 'minimum - 1 < v.last.0 - v.first.0'),
     ('interval/time.rt', 'minimum - 1 <= v.last.0 - v.first.0', 'minimum - 1 <= v.last.0 - v.first.0 + 1'),
@@ -44,10 +45,10 @@ CALLS = [
     ('rows/lib.rt', 'Side::Inner => join_pair(minimum, u, t),', 'Side::Inner => join_pair(1, u, t),'),
     (
         'rows/lib.rt',
-        'Pair::Makes(Row {',
+        'Some(Row {',
         'let half = (minimum - 1) / 2;\n    let valid = interval::time::Interval {\n'
         '        first: interval::time::Chronon(valid.first.0 + half),\n'
-        '        last: interval::time::Chronon(valid.last.0 - half),\n    };\n    Pair::Makes(Row {',
+        '        last: interval::time::Chronon(valid.last.0 - half),\n    };\n    Some(Row {',
     ),
     # a minimum that is not handed on: to a change, to its checks 10 and 12, to what it adds and takes out
     ('rows/lib.rt', 'minimum: p.minimum,', 'minimum: 1,'),
@@ -83,88 +84,78 @@ CALLS = [
     # pairs compared and tuples looked at do not depend on it
     (
         'addition/lib.rt',
-        'store::append_row(rows, room, i, row);\n        }\n        compared += 1;',
-        'store::append_row(rows, room, i, row);\n            compared += 1;\n        }',
+        'store::append(rows, room, i, row);\n        }\n        compared += 1;',
+        'store::append(rows, room, i, row);\n            compared += 1;\n        }',
     ),
     (
         'addition/lib.rt',
         'compared += 1;',
-        'if let (Pair::Makes(_), Pair::Nothing) = (rows::oriented(1, side, t, part::tuple_at(part, k)), pair) {\n'
-        '        } else {\n            compared += 1;\n        }',
+        'if let (Some(_), None) = (rows::oriented(1, side, t, part::record_at(part, k)), pair) {\n        } else {\n'
+        '            compared += 1;\n        }',
     ),
     (
         'insertion/lib.rt',
-        'checks::accepted(changed, examined)',
-        'checks::accepted(changed, if site.minimum > 1 { changed } else { examined })',
+        'Counted { changed, examined }',
+        'Counted { changed, examined: if site.minimum > 1 { changed } else { examined } }',
     ),
     (
         'deletion/lib.rt',
-        'checks::accepted(changed, examined)',
-        'checks::accepted(changed, if site.minimum > 1 { changed } else { examined })',
+        'Counted { changed, examined }',
+        'Counted { changed, examined: if site.minimum > 1 { changed } else { examined } }',
     ),
     # a recut keeps it
-    ('plan/lib.rt', 'minimum: p.minimum,', 'minimum: 1,'),
+    ('plan/lib.rt', 'Partitioning { lasts, ..p }', 'Partitioning { lasts, minimum: 1, ..p }'),
     # its check: the bounds, the number, and after which checks it comes
     ('plan/lib.rt', 'if minimum < 1 {', 'if false {'),
     ('plan/lib.rt', 'if MOST_MINIMUM < minimum {', 'if MOST_MINIMUM <= minimum {'),
     ('plan/lib.rt', 'if MOST_MINIMUM < minimum {', 'if MOST_MINIMUM + 1 < minimum {'),
     ('plan/lib.rt', 'if MOST_MINIMUM < minimum {', 'if MOST_MINIMUM < minimum as u32 as u64 {'),
-    ('plan/lib.rt', 'if minimum < 1 {\n        return 18;', 'if minimum < 1 {\n        return 3;'),
-    ('plan/lib.rt', '    minimum_check(p.minimum)\n', '    0\n'),
     (
         'plan/lib.rt',
-        'if p.count < 1 {',
-        'if minimum_check(p.minimum) != 0 {\n        return 18;\n    }\n    if p.count < 1 {',
+        'if minimum < 1 {\n        return Err(Refusal::Minimum);',
+        'if minimum < 1 {\n        return Err(Refusal::Capacity);',
     ),
-    (
-        'plan/lib.rt',
-        'if !covers(p.count, lasts) {',
-        'if minimum_check(p.minimum) != 0 {\n        return 18;\n    }\n    if !covers(p.count, lasts) {',
-    ),
-    (
-        'plan/lib.rt',
-        'if p.tuples < 1 {',
-        'if minimum_check(p.minimum) != 0 {\n        return 18;\n    }\n    if p.tuples < 1 {',
-    ),
-    (
-        'plan/lib.rt',
-        'if MOST_ROWS < p.rows {',
-        'if minimum_check(p.minimum) != 0 {\n        return 18;\n    }\n    if MOST_ROWS < p.rows {',
-    ),
+    ('plan/lib.rt', '    minimum_check(p.minimum)\n', '    Ok(())\n'),
+    ('plan/lib.rt', 'if p.count < 1 {', 'minimum_check(p.minimum)?;\n    if p.count < 1 {'),
+    ('plan/lib.rt', 'if !covers(p.count, lasts) {', 'minimum_check(p.minimum)?;\n    if !covers(p.count, lasts) {'),
+    ('plan/lib.rt', 'if p.tuples < 1 {', 'minimum_check(p.minimum)?;\n    if p.tuples < 1 {'),
+    ('plan/lib.rt', 'if MOST_ROWS < p.rows {', 'minimum_check(p.minimum)?;\n    if MOST_ROWS < p.rows {'),
     (
         'checks/lib.rt',
-        'if number != 0 {\n        return number;\n    }\n    let first',
-        'if number == 18 && (!store::fits_tuples(p, outer) || !store::fits_tuples(p, inner)'
-        ' || !store::fits_rows(p, rows)) {\n        return 4;\n    }\n'
-        '    if number != 0 {\n        return number;\n    }\n    let first',
+        'sides_lengths(p, outer, inner)?;',
+        'if plan::plan_number(p) == Err(Refusal::Minimum)\n'
+        '        && (!store::fits_tuples(p, outer) || !store::fits_tuples(p, inner) || !store::fits_rows(p, rows))\n'
+        '    {\n        return Err(Refusal::Length);\n    }\n    sides_lengths(p, outer, inner)?;',
     ),
     (
         'requirements/lib.rt',
-        'let number = plan::plan_number(p);\n    if number != 0 {',
-        'let number = plan::plan_number(p);\n    if number != 0 && number != 18 {',
+        'plan::plan_number(p)?;',
+        'if let Err(refusal) = plan::plan_number(p) {\n        if refusal != Refusal::Minimum {\n'
+        '            return Err(refusal);\n        }\n    }',
     ),
     (
         'checks/lib.rt',
-        'if number != 0 {\n        return number;\n    }\n    let first',
-        'if number != 0 && number != 18 {\n        return number;\n    }\n    let first',
+        'plan::plan_number(p)?;\n    tuples_length(p, outer)?;',
+        'if let Err(refusal) = plan::plan_number(p) {\n        if refusal != Refusal::Minimum {\n'
+        '            return Err(refusal);\n        }\n    }\n    tuples_length(p, outer)?;',
     ),
     # a stored row that is too short, and one that is just long enough
     ('interval/tuple.rt', 'crate::time::durable(minimum, row.valid)', 'true'),
     ('soundness/lib.rt', 'Records::Rows(p.minimum),', 'Records::Rows(1),'),
     ('soundness/lib.rt', 'Records::Rows(p.minimum),', 'Records::Rows(p.minimum - 1),'),
     ('soundness/lib.rt', 'Records::Rows(p.minimum),', 'Records::Rows(p.minimum + 1),'),
-    ('interval/tuple.rt', 'if row_number(row) != 0 {\n        return false;', 'if false {\n        return false;'),
+    ('interval/tuple.rt', 'row_number(row).is_ok()', 'true'),
     # which lanes are looked at, and which lane a row goes to
-    ('addition/lib.rt', 'while j < site.count {', 'while j <= site.at.0 {'),
-    ('addition/lib.rt', 'if j < site.at.0 {\n            i = j;', 'if j < site.at.0 {\n            i = site.at.0;'),
-    ('addition/lib.rt', 'let mut i = site.at.0;', 'let mut i = j;'),
-    ('addition/lib.rt', 'let mut j = site.low.0;', 'let mut j = site.at.0;'),
-    ('addition/lib.rt', 'let mut k: usize = 0;', 'let mut k: usize = 1;'),
+    ('addition/lib.rt', 'for j in site.low.0..site.count {', 'for j in site.low.0..=site.at.0 {'),
+    ('addition/lib.rt', 'let i = site.at.0.min(j);', 'let i = site.at.0;'),
+    ('addition/lib.rt', 'let i = site.at.0.min(j);', 'let i = j;'),
+    ('addition/lib.rt', 'for j in site.low.0..site.count {', 'for j in site.at.0..site.count {'),
+    ('addition/lib.rt', 'for k in 0..n {', 'for k in 1..n {'),
     ('rows/count.rt', 'tuples += part::count(', 'tuples += 0 * part::count('),
     ('rows/count.rt', 'if site.rows.capacity < held + more {', 'if site.rows.capacity <= held + more {'),
     ('rows/count.rt', 'if site.rows.capacity < held + more {', 'if site.rows.capacity < more {'),
-    ('rows/count.rt', 'while i <= site.at.0 {', 'while i < site.at.0 {'),
-    ('rows/count.rt', 'let mut i = site.low.0;', 'let mut i = site.at.0;'),
+    ('rows/count.rt', 'for i in site.low.0..=site.at.0 {', 'for i in site.low.0..site.at.0 {'),
+    ('rows/count.rt', 'for i in site.low.0..=site.at.0 {', 'for i in site.at.0..=site.at.0 {'),
     (
         'rows/count.rt',
         'site.at,\n        site.count,\n    )',
@@ -190,7 +181,7 @@ CALLS = [
         'let mut place = place;\n'
         'while (place as u64) < part::count(store::partition(rows, room, i)) {\n'
         'store::remove(rows, ROW_WIDTH, room, i, place);\n'
-        'place = part::place_of_row(store::partition(rows, room, i), row);\n'
+        'place = part::place_of(store::partition(rows, room, i), row);\n'
         '}',
     ),
     ('removal/lib.rt', 'store::remove(rows, ROW_WIDTH, room, i, place);', 'store::remove(rows, ROW_WIDTH, room, i, 0);'),
@@ -201,16 +192,28 @@ CALLS = [
         'let partners = store::partition(other, site.tuples.words, PartitionIndex(i));',
     ),
     # one lane
-    ('records/lib.rt', 'copy(part, width, last, k);', 'copy(part, width, last, 0);'),
-    ('records/lib.rt', 'clear(&mut part[at..end]);', ''),
+    ('records/lib.rt', 'part.copy_within(at..end, 1 + width * k);', 'part.copy_within(at..end, 1);'),
+    ('records/lib.rt', 'part[at..end].fill(0);', ''),
     ('records/lib.rt', 'part[0] = held - 1;', ''),
-    ('records/lib.rt', 'copy(part, width, last, k);', ''),
-    ('records/lib.rt', 'let source = 1 + width * from;', 'let source = 1 + width * to;'),
-    ('records/lib.rt', 'part[0] = tuples + 1;', 'part[0] = tuples + 2;'),
-    ('records/lib.rt', 'write_tuple(part, 1 + TUPLE_WIDTH * (tuples as usize), t);', 'write_tuple(part, 1, t);'),
-    ('encoding/lib.rt', 'words[at + 4] = row.valid.last.0;', 'words[at + 4] = row.valid.first.0;'),
-    ('part/lib.rt', 'let mut tuple_place: usize = 0;', 'let mut tuple_place: usize = 1;'),
-    ('records/lib.rt', 'words[i] = 0;', 'words[i] = words[i] / 2;'),
+    ('records/lib.rt', 'part.copy_within(at..end, 1 + width * k);', ''),
+    (
+        'records/lib.rt',
+        'part.copy_within(at..end, 1 + width * k);',
+        'let own = 1 + width * k;\n    part.copy_within(own..own + width, own);',
+    ),
+    ('records/lib.rt', 'part[0] = held + 1;', 'part[0] = held + if R::WIDTH == 4 { 2 } else { 1 };'),
+    (
+        'records/lib.rt',
+        'added.write(part, 1 + R::WIDTH * (held as usize));',
+        'added.write(part, if R::WIDTH == 4 { 1 } else { 1 + R::WIDTH * (held as usize) });',
+    ),
+    ('encoding/lib.rt', 'words[at + 4] = self.valid.last.0;', 'words[at + 4] = self.valid.first.0;'),
+    (
+        'part/lib.rt',
+        'for place in 0..n {',
+        'let start = if R::WIDTH == 4 { 1 } else { 0 };\n    for place in start..n {',
+    ),
+    ('records/lib.rt', 'words.fill(0);', 'for word in words {\n        *word /= 2;\n    }'),
     ('part/lib.rt', 'equal_rows += 1;', 'equal_rows = 1;'),
     # the checks
     ('plan/lib.rt', 'if MOST_PARTITIONS < p.count {', 'if MOST_PARTITIONS + 1 < p.count {'),
@@ -218,7 +221,7 @@ CALLS = [
     ('plan/lib.rt', 'end.0 == CALENDAR_END', 'end.0 <= CALENDAR_END'),
     ('plan/lib.rt', 'if MOST_TUPLES < p.tuples {', 'if MOST_TUPLES + 1 < p.tuples {'),
     ('plan/lib.rt', 'if MOST_ROWS < p.rows {', 'if MOST_ROWS - 1 < p.rows {'),
-    ('plan/lib.rt', 'if m.0 <= last.0 {', 'if m.0 < last.0 {'),
+    ('plan/lib.rt', '|last| m.0 <= last.0)', '|last| m.0 < last.0)'),
     ('soundness/lib.rt', 'zeros_from(part, 1 + width(kind) * n)', 'true'),
     ('soundness/lib.rt', 'Records::Rows(_) => ROW_WIDTH,', 'Records::Rows(_) => TUPLE_WIDTH,'),
     ('soundness/lib.rt', 'zeros_one_by_one(words, i)', 'true'),
@@ -227,53 +230,59 @@ CALLS = [
     ('store/lib.rt', 'len == p.count as usize * tuple_room(p)', 'p.count as usize * tuple_room(p) <= len'),
     ('store/lib.rt', 'len == p.count as usize * row_room(p)', 'len <= p.count as usize * row_room(p)'),
     ('interval/tuple.rt', 'if LABEL_END < label {', 'if LABEL_END <= label {'),
-    ('interval/tuple.rt', 'if ITEM_END < item { 7 } else { 0 }', 'if ITEM_END <= item { 7 } else { 0 }'),
+    ('interval/tuple.rt', 'if ITEM_END < item {', 'if ITEM_END <= item {'),
     ('interval/tuple.rt', 'if CALENDAR_END < valid.last.0 {', 'if CALENDAR_END < valid.first.0 {'),
-    ('interval/tuple.rt', 'if r.inner != s.inner {', 'if false {'),
-    ('interval/tuple.rt', 'if a.item != b.item {', 'if false {'),
+    ('interval/tuple.rt', 'r == s', 'r == Row { inner: r.inner, ..s }'),
+    ('interval/tuple.rt', 'a == b', 'a == Tuple { item: a.item, ..b }'),
     # a span entered backward, one that runs past the calendar, one that does both; a stored one
-    ('interval/tuple.rt', '        return 17;', '        return 8;'),
-    ('interval/tuple.rt', '        return 8;', '        return 17;'),
+    ('interval/tuple.rt', 'return Err(Refusal::PastCalendar);', 'return Err(Refusal::Backward);'),
+    ('interval/tuple.rt', 'return Err(Refusal::Backward);', 'return Err(Refusal::PastCalendar);'),
     ('interval/tuple.rt', 'if CALENDAR_END < valid.last.0 {', 'if CALENDAR_END <= valid.last.0 {'),
     ('interval/tuple.rt', 'if valid.last.0 < valid.first.0 {', 'if valid.last.0 <= valid.first.0 {'),
     (
         'interval/tuple.rt',
         'if valid.last.0 < valid.first.0 {',
-        'if CALENDAR_END < valid.last.0 {\n        return 17;\n    }\n    if valid.last.0 < valid.first.0 {',
+        'if CALENDAR_END < valid.last.0 {\n        return Err(Refusal::PastCalendar);\n    }\n'
+        '    if valid.last.0 < valid.first.0 {',
     ),
     (
         'interval/tuple.rt',
-        'let item = item_check(t.item);',
-        'if valid_check(t.valid) == 17 {\n        return 17;\n    }\n    let item = item_check(t.item);',
+        'item_check(t.item)?;',
+        'if valid_check(t.valid) == Err(Refusal::PastCalendar) {\n        return Err(Refusal::PastCalendar);\n    }\n'
+        '    item_check(t.item)?;',
     ),
     (
         'soundness/lib.rt',
-        'let legal = interval::tuple::tuple_number(t) == 0;',
-        'let number = interval::tuple::tuple_number(t);\n            if number == 17 {\n                return true;\n'
-        '            }\n            let legal = number == 0;',
+        'let legal = interval::tuple::tuple_number(t).is_ok();',
+        'let number = interval::tuple::tuple_number(t);\n'
+        '            if number == Err(refusal::Refusal::PastCalendar) {\n                return true;\n'
+        '            }\n            let legal = number.is_ok();',
     ),
     (
         'soundness/lib.rt',
         'let legal = interval::tuple::legal_row(minimum, row);',
         'let legal = interval::tuple::legal_row(minimum, row);\n'
-        '            if interval::tuple::row_number(row) == 17 {\n                return true;\n            }',
+        '            if interval::tuple::row_number(row) == Err(refusal::Refusal::PastCalendar) {\n'
+        '                return true;\n            }',
     ),
     # the calls: what they do
     (
         'insertion/lib.rt',
-        'if number != 0 {\n        return checks::refused(number);',
-        'if true {\n        return checks::refused(number);',
+        'insert_number(p, side, t, site, own, other, rows)?;',
+        'insert_number(p, side, t, site, own, other, rows)?;\n    if true {\n'
+        '        return Ok(Counted { changed: 0, examined: 0 });\n    }',
     ),
     (
         'deletion/lib.rt',
-        'if number != 0 {\n        return checks::refused(number);',
-        'if true {\n        return checks::refused(number);',
+        'delete_number(p, side, t, site, own, other, rows)?;',
+        'delete_number(p, side, t, site, own, other, rows)?;\n    if true {\n'
+        '        return Ok(Counted { changed: 0, examined: 0 });\n    }',
     ),
-    ('insertion/lib.rt', 'store::append_tuple(own, site.tuples.words, site.at, t);', ''),
+    ('insertion/lib.rt', 'store::append(own, site.tuples.words, site.at, t);', ''),
     (
         'insertion/lib.rt',
-        'store::append_tuple(own, site.tuples.words, site.at, t);',
-        'store::append_tuple(own, site.tuples.words, site.low, t);',
+        'store::append(own, site.tuples.words, site.at, t);',
+        'store::append(own, site.tuples.words, site.low, t);',
     ),
     (
         'insertion/lib.rt',
@@ -327,8 +336,8 @@ CALLS = [
         'let mut k: usize = 0;\n    while k < d {\n        let mut l: usize = 0;\n        while l < c {\n'
         '            let (t, u) = (cache::tuple(outer_cache, l), cache::tuple(inner_cache, k));\n'
         '            let pair = rows::oriented(minimum, Side::Outer, t, u);\n'
-        '            if let rows::Pair::Makes(row) = pair {\n'
-        '                store::append_row(rows, room, i, row);\n            }\n'
+        '            if let Some(row) = pair {\n'
+        '                store::append(rows, room, i, row);\n            }\n'
         '            l += 1;\n        }\n        k += 1;\n    }\n    own_own + (own_cached + cached_own)',
     ),
     ('sweep/partitions.rt', 'join_run(minimum, Side::Inner, inner_cache, d, outer, rows, room, i)', '0'),
@@ -340,28 +349,35 @@ CALLS = [
     ('sweep_count/lib.rt', 'if p.rows < rows_of(', 'if p.rows <= rows_of('),
     ('sweep_count/lib.rt', 'let above = i.0 + 1;', 'let above = i.0;'),
     ('sweep_count/lib.rt', 'if t.valid.first.0 <= last.0 {', 'if t.valid.first.0 < last.0 {'),
-    ('sweep/partitions.rt', 'checks::accepted(written, compared)', 'checks::accepted(compared, compared)'),
+    ('sweep/partitions.rt', 'changed: written,', 'changed: compared,'),
     ('sweep_count/lib.rt', 'words < TUPLE_WIDTH * need', 'words <= TUPLE_WIDTH * need'),
     ('sweep_count/lib.rt', 'words < TUPLE_WIDTH * need', 'words + 1 < TUPLE_WIDTH * need'),
     ('sweep_count/lib.rt', 'if is_short(size.outer, outer_cache) {', 'if is_short(size.inner, outer_cache) {'),
     ('sweep_count/lib.rt', 'if is_short(size.inner, inner_cache) {', 'if is_short(size.outer, inner_cache) {'),
     ('sweep_count/lib.rt', 'if is_short(size.inner, inner_cache) {', 'if is_short(size.inner, outer_cache) {'),
-    ('sweep_count/lib.rt', '        return 14;\n    }\n    0', '        return 10;\n    }\n    0'),
+    (
+        'sweep_count/lib.rt',
+        'return Err(Refusal::ShortCache);\n    }\n    Ok(())',
+        'return Err(Refusal::Crowded);\n    }\n    Ok(())',
+    ),
     ('sweep_count/lib.rt', 'if overfull(p, outer, inner) {', 'if false {'),
     (
         'sweep_count/lib.rt',
         'if is_short(size.outer, outer_cache) {',
-        'if overfull(p, outer, inner) {\n        return 10;\n    }\n    if is_short(size.outer, outer_cache) {',
+        'if overfull(p, outer, inner) {\n        return Err(Refusal::Crowded);\n    }\n'
+        '    if is_short(size.outer, outer_cache) {',
     ),
     (
         'join/lib.rt',
-        'if space != 0 {\n        return checks::refused(space);',
-        'if space != 0 {\n        records::clear(outer_cache);\n        return checks::refused(space);',
+        'sweep_count::sweep_number(p, outer, inner, outer_cache.len(), inner_cache.len())?;',
+        'let space = sweep_count::sweep_number(p, outer, inner, outer_cache.len(), inner_cache.len());\n'
+        '    if space.is_err() {\n        records::clear(outer_cache);\n    }\n    space?;',
     ),
     (
         'join/lib.rt',
-        'if space != 0 {\n        return checks::refused(space);',
-        'if space != 0 {\n        records::clear(rows);\n        return checks::refused(space);',
+        'sweep_count::sweep_number(p, outer, inner, outer_cache.len(), inner_cache.len())?;',
+        'let space = sweep_count::sweep_number(p, outer, inner, outer_cache.len(), inner_cache.len());\n'
+        '    if space.is_err() {\n        records::clear(rows);\n    }\n    space?;',
     ),
     # what a sweep takes: the need of each side and the pairs
     ('sweep_count/lib.rt', 'let next = i.0 + 1;', 'let next = i.0;'),
@@ -380,42 +396,66 @@ CALLS = [
     ('sweep_count/lib.rt', 'os * ss + (ds * os + cs * ss)', 'os * ss + (cs * os + ds * ss)'),
     ('sweep_count/lib.rt', 'os * ss + (ds * os + cs * ss)', 'os * ss + cs * ss'),
     ('sweep_count/lib.rt', 'os * ss + (ds * os + cs * ss)', 'os * ss'),
-    ('sweep_count/lib.rt', 'if a < b { b } else { a }', 'if a < b { a } else { b }'),
-    ('sweep_count/lib.rt', 'most_outer = larger(most_outer, at.outer);', 'most_outer = at.outer;'),
-    ('sweep_count/lib.rt', 'most_outer = larger(most_outer, at.outer);', 'most_outer += at.outer;'),
-    ('sweep_count/lib.rt', 'most_inner = larger(most_inner, at.inner);', 'most_inner = at.inner;'),
     (
         'sweep_count/lib.rt',
-        'most_inner = larger(most_inner, at.inner);',
+        'most_outer = most_outer.max(at.outer);\n        most_inner = most_inner.max(at.inner);',
+        'most_outer = most_outer.min(at.outer);\n        most_inner = most_inner.min(at.inner);',
+    ),
+    ('sweep_count/lib.rt', 'most_outer = most_outer.max(at.outer);', 'most_outer = at.outer;'),
+    ('sweep_count/lib.rt', 'most_outer = most_outer.max(at.outer);', 'most_outer += at.outer;'),
+    ('sweep_count/lib.rt', 'most_inner = most_inner.max(at.inner);', 'most_inner = at.inner;'),
+    (
+        'sweep_count/lib.rt',
+        'most_inner = most_inner.max(at.inner);',
         'if i == 0 {\n            most_inner = at.inner;\n        }',
     ),
     ('sweep_count/lib.rt', 'compared += at.pairs;', 'compared = at.pairs;'),
     ('sweep_count/lib.rt', 'compared += at.pairs;', 'if i == 0 {\n            compared += at.pairs;\n        }'),
     ('sweep_count/lib.rt', 'let last = lasts[i as usize];', 'let last = lasts[p.count as usize - 1];'),
     # the call that tells it before: the needs, the pairs, the report
-    ('requirements/lib.rt', 'inner: size.inner,', 'inner: size.outer,'),
     (
         'requirements/lib.rt',
-        'outer: size.outer,\n        inner: size.inner,',
-        'outer: size.inner,\n        inner: size.outer,',
+        'Ok(sweep_count::sweep_size(p, outer, inner))',
+        'let size = sweep_count::sweep_size(p, outer, inner);\n    Ok(SweepSize { inner: size.outer, ..size })',
     ),
-    ('requirements/lib.rt', 'outer: size.outer,', 'outer: 4 * size.outer,'),
-    ('requirements/lib.rt', 'inner: size.inner,', 'inner: 4 * size.inner,'),
     (
         'requirements/lib.rt',
-        'pairs: size.pairs,',
-        'pairs: rows::count::examined_from(outer, store::tuple_room(p), PartitionIndex(0), p.count)\n'
-        '            * rows::count::examined_from(inner, store::tuple_room(p), PartitionIndex(0), p.count),',
+        'Ok(sweep_count::sweep_size(p, outer, inner))',
+        'let size = sweep_count::sweep_size(p, outer, inner);\n'
+        '    Ok(SweepSize { outer: size.inner, inner: size.outer, ..size })',
     ),
-    ('requirements/lib.rt', 'pairs: size.pairs,', 'pairs: report.iter().sum(),'),
+    (
+        'requirements/lib.rt',
+        'Ok(sweep_count::sweep_size(p, outer, inner))',
+        'let size = sweep_count::sweep_size(p, outer, inner);\n    Ok(SweepSize { outer: 4 * size.outer, ..size })',
+    ),
+    (
+        'requirements/lib.rt',
+        'Ok(sweep_count::sweep_size(p, outer, inner))',
+        'let size = sweep_count::sweep_size(p, outer, inner);\n    Ok(SweepSize { inner: 4 * size.inner, ..size })',
+    ),
+    (
+        'requirements/lib.rt',
+        'Ok(sweep_count::sweep_size(p, outer, inner))',
+        'let size = sweep_count::sweep_size(p, outer, inner);\n'
+        '    let pairs = rows::count::examined_from(outer, store::tuple_room(p), PartitionIndex(0), p.count)\n'
+        '        * rows::count::examined_from(inner, store::tuple_room(p), PartitionIndex(0), p.count);\n'
+        '    Ok(SweepSize { pairs, ..size })',
+    ),
+    (
+        'requirements/lib.rt',
+        'Ok(sweep_count::sweep_size(p, outer, inner))',
+        'let size = sweep_count::sweep_size(p, outer, inner);\n'
+        '    Ok(SweepSize { pairs: report.iter().sum(), ..size })',
+    ),
     ('requirements/lib.rt', 'write_rows(p, outer, inner, report);', ''),
     ('requirements/lib.rt', 'inner, PartitionIndex(i));', 'inner, PartitionIndex(0));'),
     ('requirements/lib.rt', 'inner, PartitionIndex(i));', 'inner, PartitionIndex(p.count - 1 - i));'),
     ('requirements/lib.rt', 'inner, PartitionIndex(i));', 'inner, PartitionIndex((i + 1) % p.count));'),
     ('requirements/lib.rt', 'inner, PartitionIndex(i));', 'inner, PartitionIndex(i)).min(p.rows);'),
     ('requirements/lib.rt', 'report[i as usize] = ', 'report[i as usize] += '),
-    ('requirements/lib.rt', 'let mut i: u64 = 0;', 'let mut i: u64 = 1;'),
-    ('requirements/lib.rt', 'while i < p.count {', 'while i + 1 < p.count {'),
+    ('requirements/lib.rt', 'for i in 0..p.count {', 'for i in 1..p.count {'),
+    ('requirements/lib.rt', 'for i in 0..p.count {', 'for i in 0..p.count - 1 {'),
     ('sweep_count/lib.rt', 'with_inner + with_outer', 'with_inner'),
     (
         'sweep_count/lib.rt',
@@ -426,63 +466,71 @@ CALLS = [
     ('requirements/lib.rt', 'if words as u64 == p.count {', 'if p.count <= words as u64 {'),
     ('requirements/lib.rt', 'if words as u64 == p.count {', 'if words as u64 <= p.count {'),
     ('requirements/lib.rt', 'if words as u64 == p.count {', 'if words == plan::PLACES {'),
-    ('requirements/lib.rt', 'if number != 0 {\n        return number;', 'if false {\n        return number;'),
-    ('requirements/lib.rt', 'if first != 0 {', 'if false {'),
-    ('requirements/lib.rt', 'if second != 0 {', 'if false {'),
+    ('requirements/lib.rt', 'plan::plan_number(p)?;', ''),
+    ('requirements/lib.rt', 'checks::tuples_length(p, outer.len())?;', ''),
+    ('requirements/lib.rt', 'checks::tuples_length(p, inner.len())?;', ''),
     ('requirements/lib.rt', 'checks::tuples_length(p, inner.len())', 'checks::tuples_length(p, outer.len())'),
-    ('requirements/lib.rt', 'if third != 0 {', 'if false {'),
-    ('requirements/lib.rt', 'if unsound != 0 {', 'if false {'),
-    ('requirements/lib.rt', 'checks::tuples_unsound(p, inner)', '0'),
+    ('requirements/lib.rt', 'report_length(p, words)?;', ''),
+    ('requirements/lib.rt', 'checks::tuples_unsound(p, outer)?;', ''),
+    ('requirements/lib.rt', 'checks::tuples_unsound(p, inner)', 'Ok(())'),
+    ('requirements/lib.rt', 'plan::plan_number(p)?;', 'report_length(p, words)?;\n    plan::plan_number(p)?;'),
     (
         'requirements/lib.rt',
-        'let number = plan::plan_number(p);',
-        'if report_length(p, words) != 0 {\n        return 4;\n    }\n    let number = plan::plan_number(p);',
+        'report_length(p, words)?;',
+        'checks::tuples_unsound(p, outer)?;\n    report_length(p, words)?;',
     ),
     (
         'requirements/lib.rt',
-        'let third = report_length(p, words);',
-        'if checks::tuples_unsound(p, outer) != 0 {\n        return 5;\n    }\n'
-        '    let third = report_length(p, words);',
+        'report_length(p, words)?;',
+        'checks::tuples_unsound(p, inner)?;\n    report_length(p, words)?;',
     ),
     (
         'requirements/lib.rt',
-        'let third = report_length(p, words);',
-        'if checks::tuples_unsound(p, inner) != 0 {\n        return 5;\n    }\n'
-        '    let third = report_length(p, words);',
+        'requirements_number(p, outer, inner, report.len())?;',
+        'requirements_number(p, outer, inner, report.len())?;\n    if sweep_count::overfull(p, outer, inner) {\n'
+        '        return Err(Refusal::Crowded);\n    }',
     ),
     (
         'requirements/lib.rt',
-        'if number != 0 {\n        return Requirements {',
-        'let number = if number == 0 && sweep_count::overfull(p, outer, inner) { 10 } else { number };\n'
-        '    if number != 0 {\n        return Requirements {',
+        'requirements_number(p, outer, inner, report.len())?;',
+        'records::clear(report);\n    requirements_number(p, outer, inner, report.len())?;',
     ),
     (
         'requirements/lib.rt',
-        'let number = requirements_number(p, outer, inner, report.len());',
-        'records::clear(report);\n    let number = requirements_number(p, outer, inner, report.len());',
+        'requirements_number(p, outer, inner, report.len())?;',
+        'let number = requirements_number(p, outer, inner, report.len());\n    if number == Err(Refusal::Unsound) {\n'
+        '        records::clear(report);\n    }\n    number?;',
     ),
     (
         'requirements/lib.rt',
-        'if number != 0 {\n        return Requirements {',
-        'if number == 5 {\n        records::clear(report);\n    }\n    if number != 0 {\n        return Requirements {',
+        'requirements_number(p, outer, inner, report.len())?;',
+        'if let Err(refusal) = requirements_number(p, outer, inner, report.len()) {\n'
+        '        return Ok(SweepSize { outer: 0, inner: 0, pairs: refusal.into() });\n    }',
     ),
-    ('requirements/lib.rt', 'pairs: 0,', 'pairs: number,'),
     # the repartition: the plan that it returns, its numbers, and which check comes first
     ('join/lib.rt', 'plan: next,', 'plan: p,'),
     (
         'join/lib.rt',
-        'answer: checks::refused(check),\n            plan: p,',
-        'answer: checks::refused(check),\n            plan: plan::with_cuts(p, new),',
+        'answer: Err(refusal),\n            plan: p,',
+        'answer: Err(refusal),\n            plan: plan::with_cuts(p, new),',
     ),
-    ('join/lib.rt', 'checks::accepted(0, 0),\n        plan', 'checks::accepted(0, 1),\n        plan'),
-    ('plan/lib.rt', 'let mut places = p.count;', 'let mut places = MOST_PARTITIONS;'),
-    ('plan/lib.rt', 'let mut i: u64 = 0;\n    while i < places {', 'let mut i: u64 = 1;\n    while i < places {'),
+    (
+        'join/lib.rt',
+        'examined: 0,\n                }),\n                plan',
+        'examined: 1,\n                }),\n                plan',
+    ),
+    ('plan/lib.rt', 'let places = MOST_PARTITIONS.min(p.count) as usize;', 'let places = PLACES;'),
+    (
+        'plan/lib.rt',
+        'lasts[..places].copy_from_slice(&new[..places]);',
+        'lasts[1..places].copy_from_slice(&new[1..places]);',
+    ),
     ('join/lib.rt', 'if !plan::covers(p.count, new) {', 'if false {'),
-    ('join/lib.rt', '        return 2;', '        return 13;'),
+    ('join/lib.rt', 'return Err(Refusal::Cuts);', 'return Err(Refusal::Missing);'),
     (
         'join/lib.rt',
         'let next = plan::with_cuts(p, new);\n    repartitioning::move_number(',
-        'if rows.iter().any(|w| *w != 0) {\n        return 13;\n    }\n'
+        'if rows.iter().any(|w| *w != 0) {\n        return Err(Refusal::Missing);\n    }\n'
         '    let next = plan::with_cuts(p, new);\n    repartitioning::move_number(',
     ),
     ('repartitioning/lib.rt', 'if tuples_overfull(p, q, outer) {', 'if false {'),
@@ -491,28 +539,34 @@ CALLS = [
     (
         'repartitioning/lib.rt',
         'if tuples_overfull(p, q, outer) {',
-        'if rows_overfull(p, q, rows) {\n        return 10;\n    }\n    if tuples_overfull(p, q, outer) {',
+        'if rows_overfull(p, q, rows) {\n        return Err(Refusal::Crowded);\n    }\n'
+        '    if tuples_overfull(p, q, outer) {',
     ),
     (
         'repartitioning/lib.rt',
         'if tuples_overfull(p, q, inner) {',
-        'if rows_overfull(p, q, rows) {\n        return 10;\n    }\n    if tuples_overfull(p, q, inner) {',
+        'if rows_overfull(p, q, rows) {\n        return Err(Refusal::Crowded);\n    }\n'
+        '    if tuples_overfull(p, q, inner) {',
     ),
-    ('repartitioning/lib.rt', '        return 10;', '        return 9;'),
-    ('repartitioning/lib.rt', 'inner) {\n        return 9;', 'inner) {\n        return 10;'),
+    ('repartitioning/lib.rt', 'return Err(Refusal::Crowded);', 'return Err(Refusal::Full);'),
+    (
+        'repartitioning/lib.rt',
+        'inner) {\n        return Err(Refusal::Full);',
+        'inner) {\n        return Err(Refusal::Crowded);',
+    ),
     ('repartitioning/lib.rt', 'TUPLE_WIDTH, room, q, q.tuples)', 'TUPLE_WIDTH, room, q, q.rows)'),
     ('repartitioning/lib.rt', 'ROW_WIDTH, room, q, q.rows)', 'ROW_WIDTH, room, q, q.tuples)'),
     ('repartitioning/lib.rt', 'ROW_WIDTH, room, q, q.rows)', 'ROW_WIDTH, room, p, q.rows)'),
     # what is counted for 9 and 10
     ('move_count/lib.rt', 'if cuts[middle] < m.0 {', 'if cuts[middle] <= m.0 {'),
-    ('move_count/lib.rt', 'if capacity < counts[i] {', 'if capacity <= counts[i] {'),
-    ('move_count/lib.rt', 'if capacity < counts[i] {', 'if capacity + 1 < counts[i] {'),
-    ('move_count/lib.rt', 'let mut j: usize = 0;', 'let mut j: usize = 1;'),
-    ('move_count/lib.rt', 'while j < cuts.len() {', 'while j + 1 < cuts.len() {'),
-    ('move_count/lib.rt', 'let mut k: usize = 0;', 'let mut k: usize = 1;'),
+    ('move_count/lib.rt', '|count| capacity < *count', '|count| capacity <= *count'),
+    ('move_count/lib.rt', '|count| capacity < *count', '|count| capacity + 1 < *count'),
+    ('move_count/lib.rt', 'for j in 0..cuts.len() {', 'for j in 1..cuts.len() {'),
+    ('move_count/lib.rt', 'for j in 0..cuts.len() {', 'for j in 0..cuts.len() - 1 {'),
+    ('move_count/lib.rt', 'for k in 0..held {', 'for k in 1..held {'),
     ('move_count/lib.rt', 'part[width * (k + 1)]', 'part[width * (k + 1) - 1]'),
-    ('move_count/lib.rt', 'let mut i: u64 = 0;', 'let mut i: u64 = 1;'),
-    ('move_count/lib.rt', 'let mut i: usize = 0;', 'let mut i: usize = 1;'),
+    ('move_count/lib.rt', 'for i in 0..q.count as usize {', 'for i in 1..q.count as usize {'),
+    ('move_count/lib.rt', 'counts.iter().any(', 'counts.iter().skip(1).any('),
     ('move_count/lib.rt', 'some_above(&counts[..n], capacity)', 'some_above(&counts[..n - 1], capacity)'),
     # what moves, and a refusal that moves some
     ('join/lib.rt', 'repartitioning::move_tuples(p, next, outer);', ''),
@@ -525,51 +579,52 @@ CALLS = [
     ),
     (
         'join/lib.rt',
-        'if check != 0 {\n        return NewPlan {',
-        'if check == 10 {\n        repartitioning::move_tuples(p, plan::with_cuts(p, new), outer);\n    }\n'
-        '    if check != 0 {\n        return NewPlan {',
+        'match repartition_number(p, new, outer, inner, rows) {',
+        'let check = repartition_number(p, new, outer, inner, rows);\n    if check == Err(Refusal::Crowded) {\n'
+        '        repartitioning::move_tuples(p, plan::with_cuts(p, new), outer);\n    }\n    match check {',
     ),
     (
         'join/lib.rt',
-        'if check != 0 {\n        return NewPlan {',
-        'if check == 9 {\n        moves::compact(inner, 4, store::tuple_room(p), p.count);\n    }\n'
-        '    if check != 0 {\n        return NewPlan {',
+        'match repartition_number(p, new, outer, inner, rows) {',
+        'let check = repartition_number(p, new, outer, inner, rows);\n    if check == Err(Refusal::Full) {\n'
+        '        moves::compact(inner, 4, store::tuple_room(p), p.count);\n    }\n    match check {',
     ),
     (
         'join/lib.rt',
-        'if check != 0 {\n        return NewPlan {',
-        'if check == 2 && outer[0] > 1 {\n        records::swap(outer, 4, 0, 1);\n    }\n'
-        '    if check != 0 {\n        return NewPlan {',
+        'match repartition_number(p, new, outer, inner, rows) {',
+        'let check = repartition_number(p, new, outer, inner, rows);\n'
+        '    if check == Err(Refusal::Cuts) && outer[0] > 1 {\n        records::swap(outer, 4, 0, 1);\n    }\n'
+        '    match check {',
     ),
     # the move of one store: gathered to a run, split, and laid down
-    ('moves/lib.rt', 'let mut i: u64 = 0;', 'let mut i: u64 = 1;'),
-    ('moves/lib.rt', 'move_down(ws, start + 1, 1 +', 'move_down(ws, start, 1 +'),
+    ('moves/lib.rt', 'for i in 0..count {', 'for i in 1..count {'),
+    ('moves/lib.rt', 'let first = start + 1;', 'let first = start;'),
     ('moves/lib.rt', 'gathered += held;', 'gathered = held;'),
     (
         'moves/lib.rt',
-        'ws[from + moved];\n        ws[at + moved]',
-        'ws[from + len - 1 - moved];\n        ws[at + len - 1 - moved]',
+        'ws.copy_within(first..first + width * held, 1 + width * gathered);',
+        'for w in (0..width * held).rev() {\n            ws[1 + width * gathered + w] = ws[first + w];\n        }',
     ),
     (
         'moves/lib.rt',
-        'ws[from + left];\n        ws[at + left]',
-        'ws[from + len - 1 - left];\n        ws[at + len - 1 - left]',
+        'ws.copy_within(first..first + words, at + 1);',
+        'for w in 0..words {\n        ws[at + 1 + w] = ws[first + w];\n    }',
     ),
     ('moves/lib.rt', 'if ws[width * (low + 1)] < first.0 {', 'if ws[width * (low + 1)] <= first.0 {'),
     ('moves/lib.rt', 'if ws[width * (high + 1)] < first.0 {', 'if ws[width * (high + 1)] <= first.0 {'),
     ('moves/lib.rt', 'records::swap(ws, width, low, high);', ''),
     ('moves/lib.rt', 'records::swap(ws, width, low, high);', 'records::swap(ws, width, lo, high);'),
     ('moves/lib.rt', 'records::swap(ws, width, low, high);', 'records::swap(ws, width, low, hi - 1);'),
-    ('records/lib.rt', 'part[high + j] = below;', ''),
-    ('records/lib.rt', 'while j < width {\n        let below', 'while j + 1 < width {\n        let below'),
-    ('moves/lib.rt', 'records::clear(&mut ws[tail..end]);', ''),
+    ('records/lib.rt', 'part.swap(low + j, high + j);', 'part[low + j] = part[high + j];'),
+    ('records/lib.rt', 'for j in 0..width {', 'for j in 0..width - 1 {'),
+    ('moves/lib.rt', 'ws[tail..end].fill(0);', ''),
     ('moves/lib.rt', 'let end = at + room;', 'let end = ws.len();'),
     ('moves/lib.rt', 'ws[at] = held as u64;', ''),
     ('moves/lib.rt', 'ws[at] = held as u64;', 'ws[at] = hi as u64;'),
     (
         'moves/lib.rt',
-        'move_up(ws, 1 + width * lo, at + 1, words);\n    ws[at] = held as u64;',
-        'ws[at] = held as u64;\n    move_up(ws, 1 + width * lo, at + 1, words);',
+        'ws.copy_within(first..first + words, at + 1);\n    ws[at] = held as u64;',
+        'ws[at] = held as u64;\n    ws.copy_within(first..first + words, at + 1);',
     ),
     ('rehoming/lib.rt', 'Chronon(before.0 + 1)', 'Chronon(before.0)'),
     ('rehoming/lib.rt', 'PartitionIndex(a.0 + half)', 'PartitionIndex(half)'),
@@ -585,9 +640,9 @@ CALLS = [
     # the calls: a refusal that writes, and records that are put in another order in lanes that are not concerned
     (
         'insertion/lib.rt',
-        'if number != 0 {\n        return checks::refused(number);',
-        'if number != 0 {\n        if number == 10 {\n            append_tuple(p, t, site, own);\n        }\n'
-        '        return checks::refused(number);',
+        'insert_number(p, side, t, site, own, other, rows)?;',
+        'let number = insert_number(p, side, t, site, own, other, rows);\n    if number == Err(Refusal::Crowded) {\n'
+        '        append_tuple(p, t, site, own);\n    }\n    number?;',
     ),
     (
         'insertion/lib.rt',
@@ -602,7 +657,12 @@ CALLS = [
         'if own[0] > 1 {\n    records::swap(own, TUPLE_WIDTH, 0, 1);\n}',
     ),
     # the calls: their counts
-    ('checks/lib.rt', 'changed: 0,', 'changed: number,'),
+    (
+        'join/lib.rt',
+        'checks::given_number(p, t, outer, inner, rows)?;',
+        'if let Err(refusal) = checks::given_number(p, t, outer, inner, rows) {\n'
+        '        return Ok(Counted { changed: refusal.into(), examined: 0 });\n    }',
+    ),
     (
         'insertion/lib.rt',
         'let changed = addition::add_rows(side, t, other, site, rows);',
@@ -622,50 +682,43 @@ CALLS = [
         'let examined = rows::count::examined_from(other, site.tuples.words, site.low, site.count);',
         'let examined = rows::count::examined_from(other, site.tuples.words, plan::PartitionIndex(0), site.count);',
     ),
-    ('deletion/lib.rt', 'checks::accepted(changed, examined)', 'checks::accepted(0, examined)'),
+    ('deletion/lib.rt', 'Counted { changed, examined }', 'Counted { changed: 0, examined }'),
     # the calls: their numbers, and which check comes first
     ('insertion/lib.rt', 'if site.tuples.capacity <= held {', 'if site.tuples.capacity < held + 2 {'),
-    ('insertion/lib.rt', '        return 9;', '        return 10;'),
-    ('deletion/lib.rt', '        return 11;', '        return 12;'),
+    ('insertion/lib.rt', 'return Err(Refusal::Full);', 'return Err(Refusal::Crowded);'),
+    ('deletion/lib.rt', 'return Err(Refusal::Missing);', 'return Err(Refusal::Lacking);'),
     (
         'deletion/lib.rt',
-        'let number = missing_check(p, t, site, own);\n    if number != 0 {\n        return number;\n    }\n'
-        '    lacking_check(p, side, t, site, other, rows)',
-        'let number = lacking_check(p, side, t, site, other, rows);\n    if number != 0 {\n        return number;\n    }\n'
-        '    missing_check(p, t, site, own)',
+        'missing_check(p, t, site, own)?;\n    lacking_check(p, side, t, site, other, rows)',
+        'lacking_check(p, side, t, site, other, rows)?;\n    missing_check(p, t, site, own)',
     ),
     (
         'insertion/lib.rt',
-        'let number = full_check(p, t, site, own);\n    if number != 0 {\n        return number;\n    }\n'
-        '    overfull_check(p, side, t, site, other, rows)',
-        'let number = overfull_check(p, side, t, site, other, rows);\n    if number != 0 {\n        return number;\n    }\n'
-        '    full_check(p, t, site, own)',
+        'full_check(p, t, site, own)?;\n    overfull_check(p, side, t, site, other, rows)',
+        'overfull_check(p, side, t, site, other, rows)?;\n    full_check(p, t, site, own)',
     ),
     (
         'checks/lib.rt',
-        'let unsound = store_number(p, outer, inner, rows);',
-        'let early = interval::tuple::tuple_number(t);\n    if early != 0 {\n        return early;\n    }\n'
-        '    let unsound = store_number(p, outer, inner, rows);',
+        'store_number(p, outer, inner, rows)?;',
+        'interval::tuple::tuple_number(t)?;\n    store_number(p, outer, inner, rows)?;',
     ),
     (
         'checks/lib.rt',
-        'let unsound = store_number(p, outer, inner, rows);',
-        'let unsound = lengths_number(p, outer.len(), inner.len(), rows.len());',
+        'store_number(p, outer, inner, rows)?;',
+        'lengths_number(p, outer.len(), inner.len(), rows.len())?;',
     ),
-    ('checks/lib.rt', 'if second != 0 {', 'if false {'),
-    ('checks/lib.rt', 'if inner_unsound != 0 {', 'if false {'),
-    ('checks/lib.rt', 'return inner_unsound;\n    }\n    rows_unsound(p, rows)', 'return inner_unsound;\n    }\n    0'),
+    ('checks/lib.rt', 'sides_lengths(p, outer, inner)?;', 'sides_lengths(p, outer, outer)?;'),
+    ('checks/lib.rt', 'sides_unsound(p, outer, inner)?;', 'tuples_unsound(p, outer)?;'),
+    ('checks/lib.rt', 'sides_unsound(p, outer, inner)?;\n    rows_unsound(p, rows)', 'sides_unsound(p, outer, inner)'),
     (
         'plan/lib.rt',
         'if !covers(p.count, lasts) {',
-        'if p.tuples < 1 {\n        return 3;\n    }\n    if !covers(p.count, lasts) {',
+        'if p.tuples < 1 {\n        return Err(Refusal::Capacity);\n    }\n    if !covers(p.count, lasts) {',
     ),
     (
         'interval/tuple.rt',
-        'let label = label_check(t.label);\n    if label != 0 {\n        return label;\n    }\n'
-        '    let item = item_check(t.item);',
-        'let item = item_check(t.item);\n    if item != 0 {\n        return item;\n    }\n'
-        '    let item = label_check(t.label);',
+        'label_check(t.label)?;\n    item_check(t.item)?;',
+        'item_check(t.item)?;\n    label_check(t.label)?;',
     ),
 ]
 
@@ -685,12 +738,12 @@ EDGES = [
     ('interval/time.rt', 'if minimum <= 1 {', 'if minimum == 1 {'),
     ('interval/time.rt', '        return true;', '        return v.first.0 <= v.last.0;'),
     ('interval/time.rt', 'if minimum <= 1 {', 'if minimum <= 1 || 1_440 < minimum {'),
-    ('interval/tuple.rt', 'if row_number(row) != 0 {\n        return false;', 'if false {\n        return false;'),
+    ('interval/tuple.rt', 'row_number(row).is_ok()', 'true'),
     ('interval/tuple.rt', 'crate::time::durable(minimum, row.valid)', 'true'),
     (
         'interval/tuple.rt',
-        'if row_number(row) != 0 {\n        return false;',
-        'if row_number(row) != 0 && row_number(row) != 17 {\n        return false;',
+        'row_number(row).is_ok()',
+        '(row_number(row).is_ok() || row_number(row) == Err(Refusal::PastCalendar))',
     ),
 ]
 
@@ -745,16 +798,16 @@ QUESTIONS = [
     ('cursor/lib.rt', 'window.first.0 <= row.valid.last.0', 'window.first.0 <= row.valid.first.0'),
     # which lanes and rows are read
     ('question/lib.rt', 'count: p.count,', 'count: p.count - 1,'),
-    ('cursor/lib.rt', 'while j < scan.count {', 'while j + 1 < scan.count {'),
-    ('cursor/lib.rt', 'while j < scan.count {', 'while j <= scan.from.0 && j < scan.count {'),
-    ('cursor/lib.rt', 'j += 1;', 'j += 2;'),
+    ('cursor/lib.rt', 'for j in i.0..scan.count {', 'for j in i.0..scan.count.saturating_sub(1) {'),
+    ('cursor/lib.rt', 'for j in i.0..scan.count {', 'for j in i.0..scan.count.min(scan.from.0 + 1) {'),
+    ('cursor/lib.rt', 'for j in i.0..scan.count {', 'for j in (i.0..scan.count).step_by(2) {'),
     ('cursor/lib.rt', '        place = 0;', '        place = 1;'),
     ('cursor/lib.rt', '        place = 0;\n', ''),
-    ('cursor/lib.rt', 'as usize;\n    let mut place = k;', 'as usize;\n    let mut place = k + 1;'),
-    ('cursor/lib.rt', 'place += 1;', 'place += 2;'),
-    ('cursor/lib.rt', 'while place < n {', 'while place + 1 < n {'),
+    ('cursor/lib.rt', 'for place in k..n {', 'for place in k + 1..n {'),
+    ('cursor/lib.rt', 'for place in k..n {', 'for place in (k..n).step_by(2) {'),
+    ('cursor/lib.rt', 'for place in k..n {', 'for place in k..n.saturating_sub(1) {'),
     # which row is handed out, and from where the next one is sought
-    ('cursor/lib.rt', 'part::row_at(part, place)', 'part::row_at(part, k)'),
+    ('cursor/lib.rt', 'part::record_at::<Row>(part, place)', 'part::record_at::<Row>(part, k)'),
     ('cursor/lib.rt', '                place,\n', '                place: k,\n'),
     ('cursor/lib.rt', '                partition: i,\n', '                partition: PartitionIndex(i.0 + 1),\n'),
     ('cursor/lib.rt', 'reach(rows, scan, scan.from, 0)', 'reach(rows, scan, scan.from, 1)'),
@@ -764,104 +817,100 @@ QUESTIONS = [
     ('cursor/lib.rt', 'scan.room, scan.from, scan.count)', 'scan.room, PartitionIndex(0), scan.count)'),
     ('cursor/lib.rt', 'scan.room, scan.from, scan.count)', 'scan.room, PartitionIndex(scan.from.0 + 1), scan.count)'),
     ('cursor/lib.rt', 'scan.room, scan.from, scan.count)', 'scan.room, scan.from, scan.count - 1)'),
-    ('checks/lib.rt', 'number: 0,\n        changed,', 'number: 0,\n        changed: examined,'),
-    ('checks/lib.rt', 'changed: 0,\n        examined: 0,', 'changed: 0,\n        examined: number,'),
+    ('questions/lib.rt', 'changed: 0,\n        examined: read,', 'changed: read,\n        examined: read,'),
+    (
+        'questions/lib.rt',
+        'checks::rows_number(p, rows)?;',
+        'if let Err(refusal) = checks::rows_number(p, rows) {\n'
+        '        return Ok(Counted { changed: 0, examined: refusal.into() });\n    }',
+    ),
     # the form in structs: its checks
-    ('checks/lib.rt', 'if long != 0 {', 'if false {'),
-    ('checks/lib.rt', 'return long;\n    }\n    rows_unsound(p, rows)', 'return long;\n    }\n    0'),
+    ('checks/lib.rt', 'rows_length(p, rows.len())?;', ''),
+    ('checks/lib.rt', 'rows_length(p, rows.len())?;\n    rows_unsound(p, rows)', 'rows_length(p, rows.len())'),
     (
         'checks/lib.rt',
-        'if number != 0 {\n        return number;\n    }\n    let long',
-        'if number != 0 && number != 18 {\n        return number;\n    }\n    let long',
+        'plan::plan_number(p)?;\n    rows_length(p, rows.len())?;',
+        'if let Err(refusal) = plan::plan_number(p) {\n        if refusal != Refusal::Minimum {\n'
+        '            return Err(refusal);\n        }\n    }\n    rows_length(p, rows.len())?;',
     ),
     (
         'checks/lib.rt',
-        'if number != 0 {\n        return number;\n    }\n    let long',
-        'if number == 18 && !store::fits_rows(p, rows.len()) {\n        return 4;\n    }\n'
-        '    if number != 0 {\n        return number;\n    }\n    let long',
+        'plan::plan_number(p)?;\n    rows_length(p, rows.len())?;',
+        'let number = plan::plan_number(p);\n'
+        '    if number == Err(Refusal::Minimum) && !store::fits_rows(p, rows.len()) {\n'
+        '        return Err(Refusal::Length);\n    }\n    number?;\n    rows_length(p, rows.len())?;',
     ),
     (
         'questions/lib.rt',
-        'if number != 0 {\n        return',
-        'if number != 0 {\n        begin(qs);\n        return',
+        'checks::rows_number(p, rows)?;',
+        'let number = checks::rows_number(p, rows);\n    if number.is_err() {\n        begin(qs);\n    }\n'
+        '    number?;',
     ),
     # the form in structs: its lists
     (
         'questions/lib.rt',
-        'while i < qs.len() {\n        let q = qs[i];\n        window',
-        'while i + 1 < qs.len() {\n        let q = qs[i];\n        window',
+        'for q in qs.iter_mut() {\n        window',
+        'let n = qs.len().saturating_sub(1);\n    for q in qs[..n].iter_mut() {\n        window',
     ),
     (
         'questions/lib.rt',
-        'while i < qs.len() {\n        let q = qs[i];\n        let',
-        'while i + 1 < qs.len() {\n        let q = qs[i];\n        let',
+        'for q in qs.iter_mut() {\n        *q',
+        'let n = qs.len().saturating_sub(1);\n    for q in qs[..n].iter_mut() {\n        *q',
     ),
-    ('questions/lib.rt', 'window = question::widened(window, q);', ''),
-    ('questions/lib.rt', 'let next = question::cleared(q);\n        qs[i] = next;', ''),
-    ('questions/lib.rt', 'with_row(q, r);\n        qs[i] = next;', 'with_row(q, r);\n        qs[0] = next;'),
-    ('questions/lib.rt', 'while at.found {', 'if at.found {'),
+    ('questions/lib.rt', 'window = question::widened(window, *q);', ''),
+    ('questions/lib.rt', '*q = question::cleared(*q);', ''),
     (
         'questions/lib.rt',
-        'while at.found {',
-        'if at.found {\n        at = cursor::next(rows, scan, at);\n    }\n    while at.found {',
+        'for q in qs.iter_mut() {\n        *q = question::with_row(*q, r);',
+        'for i in 0..qs.len() {\n        let next = question::with_row(qs[i], r);\n        qs[0] = next;',
+    ),
+    ('questions/lib.rt', 'while let Some(c) = at {', 'if let Some(c) = at {'),
+    (
+        'questions/lib.rt',
+        'while let Some(c) = at {',
+        'if let Some(c) = at {\n        at = cursor::next(rows, scan, c);\n    }\n    while let Some(c) = at {',
     ),
     (
         'questions/lib.rt',
-        'count_row(qs, r);',
-        'let part = store::partition(rows, scan.room, at.partition);\n'
-        '        if at.place == 0 || !interval::tuple::same_row(r, part::row_at(part, at.place - 1)) {\n'
-        '            count_row(qs, r);\n        }',
+        'count_row(qs, c.row);',
+        'let part = store::partition(rows, scan.room, c.partition);\n'
+        '        if c.place == 0 || !interval::tuple::same_row(c.row, part::record_at(part, c.place - 1)) {\n'
+        '            count_row(qs, c.row);\n        }',
     ),
     # the form in structs: what it says
     ('questions/lib.rt', 'cursor::stored(rows, scan)', 'cursor::stored(rows, scan) * qs.len() as u64'),
     (
         'questions/lib.rt',
         'cursor::stored(rows, scan)',
-        'let mut read = 0;\n    let mut at = cursor::first(rows, scan);\n    while at.found {\n        read += 1;\n'
-        '        at = cursor::next(rows, scan, at);\n    }\n    read',
+        'let mut read = 0;\n    let mut at = cursor::first(rows, scan);\n    while let Some(c) = at {\n'
+        '        read += 1;\n        at = cursor::next(rows, scan, c);\n    }\n    read',
     ),
-    ('questions/lib.rt', 'checks::accepted(0, read)', 'checks::accepted(read, 0)'),
+    ('questions/lib.rt', 'changed: 0,\n        examined: read,', 'changed: read,\n        examined: 0,'),
     # the form in words: its checks, and their order
-    ('question_words/lib.rt', 'if words % QUESTION_WIDTH == 0 { 0 } else { 4 }', '0'),
+    ('question_words/lib.rt', 'if words % QUESTION_WIDTH == 0 {', 'if true {'),
+    ('question_words/lib.rt', 'if words % QUESTION_WIDTH == 0 {', 'if words % QUESTION_WIDTH < 2 {'),
+    ('question_words/lib.rt', 'Err(Refusal::Length)', 'Err(Refusal::Unsound)'),
+    ('question_words/lib.rt', 'checks::rows_length(p, rows.len())?;', ''),
+    ('question_words/lib.rt', 'checks::rows_unsound(p, rows)', 'Ok(())'),
+    ('question_words/lib.rt', 'plan::plan_number(p)?;', 'whole_check(words)?;\n    plan::plan_number(p)?;'),
     (
         'question_words/lib.rt',
-        'if words % QUESTION_WIDTH == 0 { 0 } else { 4 }',
-        'if words % QUESTION_WIDTH < 2 { 0 } else { 4 }',
+        'plan::plan_number(p)?;',
+        'let number = plan::plan_number(p);\n    if number == Err(Refusal::Minimum) {\n        whole_check(words)?;\n'
+        '    }\n    number?;',
     ),
     (
         'question_words/lib.rt',
-        'if words % QUESTION_WIDTH == 0 { 0 } else { 4 }',
-        'if words % QUESTION_WIDTH == 0 { 0 } else { 5 }',
+        'plan::plan_number(p)?;',
+        'let number = plan::plan_number(p);\n    if number == Err(Refusal::Minimum) {\n'
+        '        checks::rows_length(p, rows.len())?;\n    }\n    number?;',
     ),
-    ('question_words/lib.rt', 'if long != 0 {', 'if false {'),
-    ('question_words/lib.rt', 'checks::rows_unsound(p, rows)', '0'),
+    ('question_words/lib.rt', 'whole_check(words)?;', 'checks::rows_unsound(p, rows)?;\n    whole_check(words)?;'),
     (
         'question_words/lib.rt',
-        'let number = plan::plan_number(p);',
-        'if whole_check(words) != 0 {\n        return 4;\n    }\n    let number = plan::plan_number(p);',
-    ),
-    (
-        'question_words/lib.rt',
-        'let number = plan::plan_number(p);',
-        'let number = plan::plan_number(p);\n    if number == 18 && whole_check(words) != 0 {\n'
-        '        return 4;\n    }',
-    ),
-    (
-        'question_words/lib.rt',
-        'let number = plan::plan_number(p);',
-        'let number = plan::plan_number(p);\n    if number == 18 && !store::fits_rows(p, rows.len()) {\n'
-        '        return 4;\n    }',
-    ),
-    (
-        'question_words/lib.rt',
-        'let whole = whole_check(words);',
-        'let unsound = checks::rows_unsound(p, rows);\n    if unsound != 0 {\n        return unsound;\n    }\n'
-        '    let whole = whole_check(words);',
-    ),
-    (
-        'question_words/lib.rt',
-        'if number != 0 {\n        return checks::refused',
-        'if number != 0 {\n        begin(ws);\n        return checks::refused',
+        'words_number(p, rows, ws.len())?;',
+        'let number = words_number(p, rows, ws.len());\n    if number.is_err() {\n        begin(ws);\n    }\n'
+        '    number?;',
     ),
     # the form in words: its lists
     ('question_words/lib.rt', 'let at = i * QUESTION_WIDTH;', 'let at = i * 2;'),
@@ -880,30 +929,34 @@ QUESTIONS = [
     ),
     (
         'question_words/lib.rt',
-        'let n = ws.len() / QUESTION_WIDTH;\n    let mut i',
-        'let n = (ws.len() / QUESTION_WIDTH).saturating_sub(1);\n    let mut i',
+        'let n = ws.len() / QUESTION_WIDTH;\n    for i',
+        'let n = (ws.len() / QUESTION_WIDTH).saturating_sub(1);\n    for i',
     ),
     ('question_words/lib.rt', 'window = question::widened(window, q);', ''),
-    ('question_words/lib.rt', 'while at.found {', 'if at.found {'),
+    ('question_words/lib.rt', 'while let Some(c) = at {', 'if let Some(c) = at {'),
     (
         'question_words/lib.rt',
-        'while at.found {',
-        'if at.found {\n        at = cursor::next(rows, scan, at);\n    }\n    while at.found {',
+        'while let Some(c) = at {',
+        'if let Some(c) = at {\n        at = cursor::next(rows, scan, c);\n    }\n    while let Some(c) = at {',
     ),
     (
         'question_words/lib.rt',
-        'count_row(ws, r);',
-        'let part = store::partition(rows, scan.room, at.partition);\n'
-        '        if at.place == 0 || !interval::tuple::same_row(r, part::row_at(part, at.place - 1)) {\n'
-        '            count_row(ws, r);\n        }',
+        'count_row(ws, c.row);',
+        'let part = store::partition(rows, scan.room, c.partition);\n'
+        '        if c.place == 0 || !interval::tuple::same_row(c.row, part::record_at(part, c.place - 1)) {\n'
+        '            count_row(ws, c.row);\n        }',
     ),
     # the form in words: what it says
     (
         'question_words/lib.rt',
-        'cursor::stored(rows, scan))',
-        'cursor::stored(rows, scan) * (ws.len() / QUESTION_WIDTH) as u64)',
+        'examined: cursor::stored(rows, scan),',
+        'examined: cursor::stored(rows, scan) * (ws.len() / QUESTION_WIDTH) as u64,',
     ),
-    ('question_words/lib.rt', 'accepted(0, cursor::stored(rows, scan))', 'accepted(cursor::stored(rows, scan), 0)'),
+    (
+        'question_words/lib.rt',
+        'changed: 0,\n        examined: cursor::stored(rows, scan),',
+        'changed: cursor::stored(rows, scan),\n        examined: 0,',
+    ),
 ]
 
 # the program wall: what it reads and writes, which no promise can say, and some of what it prints
@@ -924,63 +977,83 @@ WALL = [
     ('label/lib.rt', 'if b < 97 {', 'if b < 98 {'),
     ('label/lib.rt', 'if 90 < b {', 'if 91 < b {'),
     ('label/lib.rt', '65 + last as u8', '97 + last as u8'),
-    ('lines/lib.rt', 'if a[i] != b[i] {', 'if a[i] | 32 != b[i] {'),
+    ('lines/lib.rt', 'let word = &line[0..c];', 'let word = &line[0..c].to_ascii_lowercase();'),
     ('lines/lib.rt', 'if 57 < b {', 'if 122 < b {'),
     # reading
-    ('wall/main.rt', 'Moved::Failed(_) => return,', 'Moved::Failed(_) => break,'),
+    (
+        'wall/main.rt',
+        'let n = channel::read_part(stdin, stderr, &mut part)?;',
+        'let Ok(n) = channel::read_part(stdin, stderr, &mut part) else {\n            break;\n        };',
+    ),
     ('wall/main.rt', '&part[..n],', '&part[..1],'),
-    ('wall/main.rt', 'let mut turns = u64::MAX;', 'let mut turns: u64 = 1;'),
+    ('wall/main.rt', 'for _ in 0..u64::MAX {', 'for _ in 0..1 {'),
     ('wall/main.rt', '        reading = next;\n', ''),
     # the words and bytes that it lends
     ('wall/main.rt', 'REFUSAL_BYTES * PART_BYTES + FINISH_BYTES', 'REFUSAL_BYTES * 80 + FINISH_BYTES'),
     ('wall/main.rt', 'REFUSAL_BYTES * PART_BYTES + FINISH_BYTES', 'REFUSAL_BYTES * 81'),
     ('session_plan/lib.rt', 'PARTITIONS as usize * ROW_ROOM', 'PARTITIONS as usize * TUPLE_ROOM'),
     ('session_plan/lib.rt', 'PARTITIONS as usize * TUPLE_ROOM', '7 * TUPLE_ROOM'),
-    ('wall/channel.rt', 'Err(error) => Moved::Failed(', 'Err(_) => Moved::Nothing,\n        Err(error) => Moved::Failed('),
-    ('wall/channel.rt', 'Moved::Failed(error) => error == INTERRUPTED,', 'Moved::Failed(error) => false,'),
-    ('wall/channel.rt', 'Moved::Failed(error.raw_os_error().unwrap_or(0))', 'Moved::Failed(0)'),
+    ('wall/channel.rt', 'Err(error) => Err(', 'Err(_) => Ok(0),\n        Err(error) => Err('),
+    ('wall/channel.rt', 'const INTERRUPTED: i32 = 4;', 'const INTERRUPTED: i32 = -4;'),
+    ('wall/channel.rt', 'Err(error.raw_os_error().unwrap_or(0))', 'Err(0)'),
     # writing
-    ('wall/main.rt', 'if !channel::print(stdout, stderr, &text[..bytes])', 'if !channel::print(stdout, stderr, &text[..0])'),
-    ('wall/main.rt', ', &text[..bytes]) {\n            return;', ', &text[..bytes]) {'),
-    ('wall/main.rt', '    channel::print(stdout, stderr, &text[..bytes]);\n}', '    channel::print(stdout, stderr, &text[..0]);\n}'),
-    ('wall/channel.rt', 'Moved::Bytes(n) => from += n,', 'Moved::Bytes(n) => from = text.len(),'),
+    (
+        'wall/main.rt',
+        'channel::print(stdout, stderr, &text[..bytes])?;',
+        'channel::print(stdout, stderr, &text[..0])?;',
+    ),
+    (
+        'wall/main.rt',
+        'channel::print(stdout, stderr, &text[..bytes])?;',
+        'let _ = channel::print(stdout, stderr, &text[..bytes]);',
+    ),
+    (
+        'wall/main.rt',
+        '    channel::print(stdout, stderr, &text[..bytes])\n}',
+        '    channel::print(stdout, stderr, &text[..0])\n}',
+    ),
+    ('wall/channel.rt', 'from += n;', 'from = text.len();'),
     ('wall/channel.rt', 'write_some(output, &text[from..])', 'write_some(output, &text[0..])'),
-    ('wall/channel.rt', 'Moved::Nothing => return Written::Failed(0),', 'Moved::Nothing => return Written::All,'),
-    ('wall/channel.rt', 'return Written::Failed(error),', 'return Written::All,'),
+    ('wall/channel.rt', 'return Err(0);', 'return Ok(());'),
+    (
+        'wall/channel.rt',
+        'let n = write_some(output, &text[from..])?;',
+        'let Ok(n) = write_some(output, &text[from..]) else {\n            return Ok(());\n        };',
+    ),
     # telling
     ('wall/channel.rt', 'tell(stderr, b"wall: read: error ", error);', ''),
     ('wall/channel.rt', 'b"wall: write: error "', 'b"wall: read: error "'),
     ('wall/channel.rt', 'write_all(&mut stderr, &line[..n]);', 'write_all(&mut io::Stdout, &line[..n]);'),
     # what a `least` line does, and when
     ('lines/lib.rt', 'Line::Least(minutes)', 'Line::Least(minutes + 1)'),
-    ('session/lib.rt', 'session: session_plan::with_minimum(s, minimum),', 'session: s,'),
+    ('session/lib.rt', 'Ok(session_plan::with_minimum(s, minimum))', 'Ok(s)'),
     ('session_plan/lib.rt', 'const FIRST_MINIMUM: u64 = 1;', 'const FIRST_MINIMUM: u64 = 2;'),
     ('session_plan/lib.rt', 'rows: ROWS,\n        minimum: s.minimum,', 'rows: ROWS,\n        minimum: FIRST_MINIMUM,'),
     (
         'session_plan/lib.rt',
-        'minimum: kept,\n        complete: m.0 == CALENDAR_END,',
-        'minimum: FIRST_MINIMUM,\n        complete: m.0 == CALENDAR_END,',
+        'complete: m.0 == CALENDAR_END,\n        ..s',
+        'complete: m.0 == CALENDAR_END,\n        minimum: FIRST_MINIMUM,\n        ..s',
     ),
     (
         'session_plan/lib.rt',
-        'minimum,\n        complete: s.complete,',
-        'minimum: if s.minimum == FIRST_MINIMUM { minimum } else { s.minimum },\n        complete: s.complete,',
+        'Session { minimum, ..s }',
+        'Session { minimum: if s.minimum == FIRST_MINIMUM { minimum } else { s.minimum }, ..s }',
     ),
     (
         'session_plan/lib.rt',
-        'minimum,\n        complete: s.complete,',
-        'minimum: if s.lanes == 0 { minimum } else { s.minimum },\n        complete: s.complete,',
+        'Session { minimum, ..s }',
+        'Session { minimum: if s.lanes == 0 { minimum } else { s.minimum }, ..s }',
     ),
     (
         'session_plan/lib.rt',
-        'if complete {\n        return OUT_OF_TURN;\n    }\n    plan::minimum_check(minimum)',
+        'if complete {\n        return Err(Refusal::OutOfTurn);\n    }\n    plan::minimum_check(minimum)',
         'plan::minimum_check(minimum)',
     ),
     (
         'session_plan/lib.rt',
-        'if complete {\n        return OUT_OF_TURN;\n    }\n    plan::minimum_check(minimum)',
-        'let number = plan::minimum_check(minimum);\n    if number != 0 {\n        return number;\n    }\n'
-        '    if complete {\n        return OUT_OF_TURN;\n    }\n    0',
+        'if complete {\n        return Err(Refusal::OutOfTurn);\n    }\n    plan::minimum_check(minimum)',
+        'plan::minimum_check(minimum)?;\n    if complete {\n        return Err(Refusal::OutOfTurn);\n    }\n'
+        '    Ok(())',
     ),
     ('plan/lib.rt', 'if minimum < 1 {', 'if false {'),
     ('plan/lib.rt', 'if MOST_MINIMUM < minimum {', 'if MOST_MINIMUM + 1 < minimum {'),
@@ -990,13 +1063,25 @@ WALL = [
     ('session/lib.rt', 'Word::DrawOut => Side::Outer,', 'Word::DrawOut => Side::Inner,'),
     # the text
     ('stream/lib.rt', 'let mut end = lines::place_of(part, LINE_END);', 'let mut end = lines::place_of(part, 13);'),
-    ('refusal_text/lib.rt', 'if number == 0 {', 'if number != 0 {'),
-    ('refusal_text/lib.rt', 'put_refusal(out, at, line, number)', 'put_refusal(out, at, number, line)'),
+    (
+        'refusal_text/lib.rt',
+        'Ok(_) => at,\n        Err(refusal) => put_refusal(out, at, line, refusal.into()),',
+        'Ok(_) => put_refusal(out, at, line, 0),\n        Err(_) => at,',
+    ),
+    (
+        'refusal_text/lib.rt',
+        'put_refusal(out, at, line, refusal.into())',
+        'put_refusal(out, at, refusal.into(), line)',
+    ),
     ('text_end/lib.rt', 'b"rows,0\\n"', 'b"rows,9\\n"'),
-    ('stream/lib.rt', 'put_answer(out, at, lines, stepped.number)', 'put_answer(out, at, s.lines, stepped.number)'),
+    ('stream/lib.rt', 'put_answer(out, at, lines, stepped)', 'put_answer(out, at, s.lines, stepped)'),
     ('stream/lib.rt', 'let reading = keep(read, &part[from..]);', 'let reading = keep(read, &part[0..]);'),
     ('stream/lib.rt', 'let reading = keep(read, &part[from..]);', 'let reading = read;'),
-    ('text_end/lib.rt', 'put_refusal(rest, 0, line, lines::MALFORMED)', 'put_refusal(rest, 0, line, 16)'),
+    (
+        'text_end/lib.rt',
+        'put_refusal(rest, 0, line, Refusal::Malformed.into())',
+        'put_refusal(rest, 0, line, Refusal::OutOfTurn.into())',
+    ),
     ('text_end/lib.rt', 'if kept == 0 {', 'if true {'),
 ]
 
@@ -1121,12 +1206,12 @@ def closed(text, at):
             return i
     fail(f'a bracket does not close: {text[at:at + 60]}')
 
-# The text without what begins so, up to the bracket that closes, and without the line's end.
-def without(text, begin):
+# The text without what begins so, up to the bracket that closes, and without what ends it and the line's end.
+def without(text, begin, end=''):
     kept = ''
     while found := re.search(begin, text):
         kept += text[:found.start()]
-        text = text[closed(text, found.end() - 1) + 1:].removeprefix('\n')
+        text = text[closed(text, found.end() - 1) + 1:].removeprefix(end).removeprefix('\n')
     return kept + text
 
 # A type's derives: all types are Copy, and Rattle's Drop is no derive of Rust.
@@ -1137,6 +1222,7 @@ def derives(found):
 # One file as Rust, a module of the one crate that all become.
 def as_rust(text, crate, names):
     text = re.sub(r'(?m)^\s*ghost use\b[^;]*;\n', '', text)
+    text = without(text, r'(?m)^[ \t]*ghost \w+(?::| =) \{', ';')
     text = without(text, r'(?m)^[ \t]*#!?\[(?=tactic\b)')
     text = without(text, r'(?m)^[ \t]+(?:requires|ensures)\*?(?: \w+)? \{')
     text = re.sub(r'(?m)^(?:#\[derive\(([\w, ]*)\)\]\n)?((?:pub(?:\(crate\))? )?(?:struct|enum) )', derives, text)

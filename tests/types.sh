@@ -19,7 +19,7 @@ plan::home(p, CHRONON);
 plan::covers(1, [CHRONON; 64]);
 plan::with_cuts(p, [CHRONON; 64]);
 store::partition(words, 5, INDEX);
-store::append_tuple(more, 5, INDEX, t);
+store::append(more, 5, INDEX, t);
 rows::count::examined_from(words, 5, INDEX, 1);
 addition::add_from(1, side, t, words, more, 5, INDEX);
 removal::lacking(side, t, words, Site { count: 1, minimum: 1, tuples: site.tuples, rows: site.rows, low: site.low, at: INDEX }, words);

@@ -2,9 +2,9 @@
 -- store, and what a passed list of checks says.
 -- Assumes nothing.
 use mathlib.Core.Bool.{Bool, true, false, not, ◌&&◌}
-use mathlib.Core.List.{List, [], ◌∷◌}
+use mathlib.Core.List.{List, [], ◌∷◌, ◌++◌}
 use mathlib.Core.Path.{◌≡◌, refl, ap}
-use Prim.Native.Nat.{ℕ, suc}
+use Prim.Native.Nat.{ℕ, zero, suc}
 use lib.ListN.{length}
 use borrow.Author.Tests.{not-false}
 use Rattle.lists.specs.Choice.{refuse_if, or_else, first_of}
@@ -32,6 +32,27 @@ all_hold a b c d e f = rw (d, e, f)
 -- a check that gave 0
 pub check-passed : (b : Bool) (n : ℕ) → refuse_if (not b) (suc n) ≡ 0 → b ≡ true
 check-passed b n e = not-false b (refuse-none (not b) n e)
+
+-- checks that are handed on together, with those after them, are all the checks
+first-split : (ms ns : List ℕ) → first_of (first_of ms ∷ ns) ≡ first_of (ms ++ ns)
+unfolding first_of
+first-split [] ns = refl
+first-split (zero ∷ ms) ns = first-split ms ns
+first-split (suc m ∷ ms) ns = refl
+
+-- so check 4 of the two tuple stores and that of the rows store are that of the three stores, and so is check 5
+pub lengths-from-sides : (p : Partitioning) (outer inner rows : ℕ)
+    → first_of (sides_lengths p outer inner ∷ (rows_length p rows ∷ [])) ≡ lengths_number p outer inner rows
+unfolding sides_lengths lengths_number
+lengths-from-sides p outer inner rows =
+    first-split (plan_number p ∷ (tuples_length p outer ∷ (tuples_length p inner ∷ []))) (rows_length p rows ∷ [])
+
+pub stores-from-sides : (p : Partitioning) (s : Stores)
+    → first_of (open_number p s ∷ (sides_unsound p s.outer s.inner ∷ (rows_unsound p s.rows ∷ []))) ≡ store_number p s
+unfolding sides_unsound store_number first_of
+stores-from-sides p s =
+    ap (or_else (open_number p s))
+    (first-split (tuples_unsound p s.outer ∷ (tuples_unsound p s.inner ∷ [])) (rows_unsound p s.rows ∷ []))
 
 -- three checks of one number are one check of three tests
 three-checks : (n : ℕ) (a b c : Bool)

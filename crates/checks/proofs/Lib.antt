@@ -1,2 +1,3 @@
 -- Going down the checks.
 pub mod Checks
+pub mod Refusals

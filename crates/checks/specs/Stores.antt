@@ -7,7 +7,8 @@ use Rattle.interval.specs.declared.tuple.Tuple.{Tuple}
 use Rattle.plan.specs.Plan.{plan_number}
 use Rattle.plan.specs.declared.Partitioning.{Partitioning}
 use Rattle.store.specs.Store.{row_room, fits_tuples, fits_rows, sound_tuples, sound_rows}
-use Rattle.checks.specs.declared.Answer.{Answer}
+use Rattle.refusal.specs.Refusal.{answer_number}
+use Rattle.checks.specs.Answer.{Answer, changed_of, examined_of}
 
 -- "Store 1 holds drawings, store 2 spots, store 3 rows": the words of the three
 pub record Stores : Type 0 where
@@ -85,8 +86,8 @@ pub record SoundStore (p : Partitioning) (rows : List ℕ) : Type 0 where
 
 -- an answer of that number, with "both 0": the two counts
 abbrev pub Says : Answer → ℕ → Type 0
-Says a n = (a.number ≡ n) × ((a.changed ≡ 0) × (a.examined ≡ 0))
+Says a n = (answer_number a ≡ n) × ((changed_of a ≡ 0) × (examined_of a ≡ 0))
 
 -- an accepted answer with these counts
 abbrev pub Counts : Answer → ℕ → ℕ → Type 0
-Counts a changed examined = (a.number ≡ 0) × ((a.changed ≡ changed) × (a.examined ≡ examined))
+Counts a changed examined = (answer_number a ≡ 0) × ((changed_of a ≡ changed) × (examined_of a ≡ examined))

@@ -21,7 +21,7 @@ ghost use Rattle.coverage.specs.NextCovered.{nearer, nearest, next_covered};
 use interval::time::{Chronon, Interval};
 use interval::tuple::Tuple;
 use plan::{PartitionIndex, Partitioning};
-use rows::{Pair, Side};
+use rows::Side;
 
 // Of the stretch found so far, from minute m on, and a row's interval, the one that starts first; where both start
 // together, the one that goes further.
@@ -36,8 +36,7 @@ fn nearer(m: Chronon, best: Interval, v: Interval) -> Interval
         return best;
     }
     if start.0 < best.first.0 {
-        let last = v.last;
-        return Interval { first: start, last };
+        return Interval { first: start, ..v };
     }
     let last = interval::time::later(best.last, v.last);
     Interval { first: start, last }
@@ -50,13 +49,11 @@ fn covered_in(minimum: u64, d: Tuple, part: &[u64], m: Chronon, best: Interval) 
 {
     let n = part::count(part) as usize;
     let mut found = best;
-    let mut k: usize = 0;
-    while k < n {
-        let pair = rows::oriented(minimum, Side::Outer, d, part::tuple_at(part, k));
-        if let Pair::Makes(row) = pair {
+    for k in 0..n {
+        let pair = rows::oriented(minimum, Side::Outer, d, part::record_at(part, k));
+        if let Some(row) = pair {
             found = nearer(m, found, row.valid);
         }
-        k += 1;
     }
     found
 }
@@ -78,11 +75,9 @@ fn covered_from(
         (made_from minimum Outer d room inner.now from.0 (count - from.0)) }
 {
     let mut found = best;
-    let mut j = from.0;
-    while j < count {
+    for j in from.0..count {
         let part = store::partition(inner, room, PartitionIndex(j));
         found = covered_in(minimum, d, part, m, found);
-        j += 1;
     }
     found
 }

@@ -9,7 +9,8 @@ use Rattle.plan.specs.Plan.{most_partitions, plan_number}
 use Rattle.plan.specs.declared.Partitioning.{Partitioning}
 use Rattle.rows.specs.Join.{join_of}
 use Rattle.checks.specs.Stores.{Stores}
-use Rattle.checks.specs.declared.Answer.{Answer}
+use Rattle.refusal.specs.Refusal.{answer_number}
+use Rattle.checks.specs.Answer.{Answer}
 use Rattle.join.specs.Opening.{Opened}
 use Rattle.history.specs.Machine.{Told, Machine, machine_after}
 use Rattle.history.specs.Runs.{Run}
@@ -25,14 +26,14 @@ machine_rows p m = join_of p.minimum m.outer m.inner
 -- asked of a rows store: the questions of a slice, and those of a host's words, where these are whole questions
 pub record AnswersFrom (p : Partitioning) (rows : List ℕ) (rs : List Row) : Type 0 where
   pub questions : (qs qs' : List Question) (a : Answer) → QuestionsAnswered p rows qs qs' a
-      → (a.number ≡ 0) × (qs' ≡ map (answered rs) qs)
+      → (answer_number a ≡ 0) × (qs' ≡ map (answered rs) qs)
   pub words : (ws ws' : List ℕ) (a : Answer) → WordsAnswered p rows ws ws' a → whole_check (length ws) ≡ 0
-      → (a.number ≡ 0) × (ws' ≡ gather question_words (map (answered rs) (questions_in ws)))
+      → (answer_number a ≡ 0) × (ws' ≡ gather question_words (map (answered rs) (questions_in ws)))
 
 -- for every legal plan, every accepted open and every list of calls after it
 abbrev pub CurrentAnswers : Type 0
 CurrentAnswers =
     (p : Partitioning) → length p.lasts ≡ most_partitions → plan_number p ≡ 0
-    → (s s₀ : Stores) (a : Answer) → Opened p s s₀ a → a.number ≡ 0
+    → (s s₀ : Stores) (a : Answer) → Opened p s s₀ a → answer_number a ≡ 0
     → (ts : List Told) (p' : Partitioning) (s' : Stores) → Run p s₀ ts p' s'
     → (m : Machine) → machine_after p ts ≡ some m → AnswersFrom p' s'.rows (machine_rows p' m)

@@ -3,9 +3,10 @@
 -- none, how many; `Looked`, the loop of `seek`, and where it ends; the partitions of a store that can be scanned; what
 -- is left from a row on; `Reaching`, the loop of `reach`, and where it ends; one row further.
 -- Assumes nothing.
-use mathlib.Core.Bool.{Bool, true, false, true≢false}
+use mathlib.Core.Bool.{Bool, true, false}
 use mathlib.Core.List.{List, [], ◌∷◌, ◌++◌}
 use mathlib.Core.Path.{◌≡◌, refl, sym, ap, ◌∙◌}
+use Rattle.std.specs.Prelude.{Option, Some, None}
 use Prim.Native.Nat.{ℕ, suc, ◌+◌, ◌-◌, ◌*◌, ◌≤◌, ◌<◌}
 use native.Mathlib.Numerals.{add-one}
 use native.Mathlib.Omega.{arith}
@@ -18,13 +19,14 @@ use Rattle.lists.proofs.Gather.{length-gather}
 use Rattle.interval.specs.Tuple.{tuple_width, row_width}
 use Rattle.interval.specs.declared.time.Interval.{Interval}
 use Rattle.interval.specs.declared.tuple.Row.{Row}
+use Rattle.plan.specs.declared.PartitionIndex.{PartitionIndex}
 use Rattle.part.specs.Part.{room_of, counted, rows_in, row_at}
 use Rattle.part.proofs.Parts.{length-rows, row_in}
 use Rattle.store.specs.Store.{partition_at}
 use Rattle.rows.specs.Partners.{Roomy}
 use Rattle.rows.proofs.Counting.{roomy-inside, roomy-fits}
 use Rattle.cursor.specs.Cursor.{touching, rows_from, scanned_from, Scannable, left}
-use Rattle.cursor.specs.Cursor.{Stands, Sought, Reached, Advanced}
+use Rattle.cursor.specs.Cursor.{Stands, Found, Reached, Advanced}
 use Rattle.cursor.specs.declared.Scan.{Scan}
 use Rattle.cursor.specs.declared.Cursor.{Cursor}
 
@@ -73,40 +75,28 @@ module _ (window : Interval) (part : List ℕ) (k : ℕ) where
   pub looked-none : k ≤ counted part → Looked window part k k
   looked-none h = record { within = h; rest = refl }
 
-  -- this row does not touch the window, so it is passed
-  pub looked-more : (place : ℕ) → place < counted part → touching window (row_at part place) ≡ false
+  -- the row there does not touch the window, so it is passed
+  pub looked-more : (place : ℕ) (r : Row) → place < counted part → r ≡ row_at part place → touching window r ≡ false
       → Looked window part k place → Looked window part k (place + 1)
-  looked-more place h e q = record {
+  looked-more place r h at e q = record {
     within = omega arith;
-    rest = sym (keep-next (touching window) (rows_in part) place (row_at part place) (rw (length-rows part) h)
-        (row_in place part _ h) e)
+    rest = sym (keep-next (touching window) (rows_in part) place r (rw (length-rows part) h)
+        (row_in place part r h ∙ sym at) e)
         ∙ q.rest;
   }
 
   -- it does, so it is the one
-  pub looked-here : (place : ℕ) → place < counted part → touching window (row_at part place) ≡ true
-      → Looked window part k place → (i : ℕ) (c : Cursor) → c.partition.0 ≡ i → c.found ≡ true → c.place ≡ place
-      → c.row ≡ row_at part place → Sought window part i k c
-  looked-here place h t q i c e f g r = record {
-    partition = e;
-    place = λ _. rw g h;
-    row = λ _. rw g r;
-    touched = λ _. rw r t;
-    rest = λ _. rw g q.rest;
-    none = λ n. absurd (true≢false (sym f ∙ n));
-  }
+  pub looked-here : (place : ℕ) (r : Row) → place < counted part → r ≡ row_at part place → touching window r ≡ true
+      → Looked window part k place → (i : PartitionIndex)
+      → Found window part i.0 k (record { partition = i; place = place; row = r })
+  looked-here place r h at e q i =
+      record { partition = refl; place = h; row = at; touched = e; rest = q.rest }
 
   -- no row is left
-  pub looked-all : (place : ℕ) → counted part ≤ place → Looked window part k place → (i : ℕ) (c : Cursor)
-      → c.partition.0 ≡ i → c.found ≡ false → Sought window part i k c
-  looked-all place h q i c e f = record {
-    partition = e;
-    place = λ y. absurd (true≢false (sym y ∙ f));
-    row = λ y. absurd (true≢false (sym y ∙ f));
-    touched = λ y. absurd (true≢false (sym y ∙ f));
-    rest = λ y. absurd (true≢false (sym y ∙ f));
-    none = λ _. sym q.rest ∙ keep-end (touching window) (rows_in part) place (rw (length-rows part) h);
-  }
+  pub looked-all : (place : ℕ) → counted part ≤ place → Looked window part k place
+      → keep (touching window) (drop k (rows_in part)) ≡ []
+  looked-all place h q =
+      sym q.rest ∙ keep-end (touching window) (rows_in part) place (rw (length-rows part) h)
 
 -- ---- the partitions of a store that can be scanned
 
@@ -182,69 +172,54 @@ module _ (s : Scan) (ws : List ℕ) (i k : ℕ) where
   pub reaching-none : i ≤ s.count → k ≤ counted (partition_at s.room ws i) → Reaching s ws i k i k
   reaching-none h l = record { within = h; here = l; rest = refl }
 
-  -- a turn of the loop, in a partition that is partition j, with the cursor that `seek` gave: it is the one, or there
-  -- is none in this partition, and the next one's first row is next
+  -- a turn of the loop, in a partition that is partition j: the row that `seek` found there is the one, or there is
+  -- none in this partition, and the next one's first row is next
   module _ (j place : ℕ) (h : j < s.count) (q : Reaching s ws i k j place) (part : List ℕ)
-      (e : part ≡ partition_at s.room ws j) (c : Cursor) (f : Sought s.window part j place c) where
+      (e : part ≡ partition_at s.room ws j) where
     abbrev here : List ℕ
     here = partition_at s.room ws j
 
-    -- what `seek` promised, of that partition
-    sought : Sought s.window here j place c
-    sought = rw (← e) f
+    pub turn-ends : (c : Cursor) → Found s.window part j place c → Reached s ws i k (Some c)
+    turn-ends c f =
+        let found : Found s.window here j place c = rw (← e) f in
+        record {
+          stands = record {
+            partition = rw found.partition h;
+            place = rw found.partition found.place;
+            row = rw found.partition found.row;
+            touched = found.touched;
+          };
+          rest = rw found.partition
+              (kept_next s ws j c.place h (omega (arith, found.place))
+              ∙ ap (λ (rs : List Row). rs ++ kept s ws (j + 1) 0) found.rest
+              ∙ sym (kept_next s ws j place h q.here) ∙ q.rest);
+        }
 
-    pub turn-ends : c.found ≡ true → Reached s ws i k c
-    unfolding left
-    turn-ends y = record {
-      stands = record {
-        partition = λ _. rw sought.partition h;
-        place = λ _. rw sought.partition (sought.place y);
-        row = λ _. rw sought.partition (sought.row y);
-        touched = λ _. sought.touched y;
-        ended = λ n. absurd (true≢false (sym y ∙ n));
-      };
-      rest = rw sought.partition
-          (kept_next s ws j c.place h (omega (arith, sought.place y))
-          ∙ ap (λ (rs : List Row). rs ++ kept s ws (j + 1) 0) (sought.rest y)
-          ∙ sym (kept_next s ws j place h q.here) ∙ q.rest);
-    }
-
-    pub turn-goes-on : c.found ≡ false → Reaching s ws i k (j + 1) 0
-    turn-goes-on n = record {
-      within = omega arith;
-      here = omega arith;
-      rest = sym (kept_next s ws j place h q.here
-          ∙ ap (λ (rs : List Row). rs ++ kept s ws (j + 1) 0) (sought.none n))
-          ∙ q.rest;
-    }
+    pub turn-goes-on : keep (touching s.window) (drop place (rows_in part)) ≡ [] → Reaching s ws i k (j + 1) 0
+    turn-goes-on n =
+        let none : keep (touching s.window) (drop place (rows_in here)) ≡ [] = rw (← e) n in
+        record {
+          within = omega arith;
+          here = omega arith;
+          rest = sym (kept_next s ws j place h q.here ∙ ap (λ (rs : List Row). rs ++ kept s ws (j + 1) 0) none)
+              ∙ q.rest;
+        }
 
   -- past the last partition there is no row
-  pub reached-end : (j place : ℕ) → s.count ≤ j → Reaching s ws i k j place → (c : Cursor) → c.partition.0 ≡ j
-      → c.found ≡ false → Reached s ws i k c
-  unfolding left
-  reached-end j place h q c e n = record {
-    stands = record {
-      partition = λ y. absurd (true≢false (sym y ∙ n));
-      place = λ y. absurd (true≢false (sym y ∙ n));
-      row = λ y. absurd (true≢false (sym y ∙ n));
-      touched = λ y. absurd (true≢false (sym y ∙ n));
-      ended = λ _. kept-none s ws c.partition.0 c.place (rw e h);
-    };
-    rest = kept-none s ws c.partition.0 c.place (rw e h) ∙ sym (kept-none s ws j place h) ∙ q.rest;
-  }
+  pub reached-end : (j place : ℕ) → s.count ≤ j → Reaching s ws i k j place → Reached s ws i k None
+  reached-end j place h q = record { stands = tt; rest = sym (kept-none s ws j place h) ∙ q.rest }
 
 -- ---- the row at a cursor is the first of those that are left, and the others are left at the next
 
-pub left-first : (s : Scan) (ws : List ℕ) (c : Cursor) → Stands s ws c → c.found ≡ true
-    → left s ws c ≡ c.row ∷ kept s ws c.partition.0 (c.place + 1)
-unfolding left
-left-first s ws c q e =
-    kept-first s ws c.partition.0 c.place (q.partition e) (q.place e) (rw (← q.row e) (q.touched e))
-    ∙ ap (λ (r : Row). r ∷ kept s ws c.partition.0 (c.place + 1)) (sym (q.row e))
+pub left-first : (s : Scan) (ws : List ℕ) (c : Cursor) → Stands s ws c
+    → left s ws (Some c) ≡ c.row ∷ kept s ws c.partition.0 (c.place + 1)
+left-first s ws c q =
+    kept-first s ws c.partition.0 c.place q.partition q.place (rw (← q.row) q.touched)
+    ∙ ap (λ (r : Row). r ∷ kept s ws c.partition.0 (c.place + 1)) (sym q.row)
 
-pub advanced : (s : Scan) (ws : List ℕ) (c c' : Cursor) → Stands s ws c → c.found ≡ true
-    → Reached s ws c.partition.0 (c.place + 1) c' → Advanced s ws c c'
-advanced s ws c c' q e r = record {
+pub advanced : (s : Scan) (ws : List ℕ) (c : Cursor) (at : Option Cursor) → Stands s ws c
+    → Reached s ws c.partition.0 (c.place + 1) at → Advanced s ws c at
+advanced s ws c at q r = record {
   stands = r.stands;
-  rest = left-first s ws c q e ∙ ap (λ (rs : List Row). c.row ∷ rs) (sym r.rest);
+  rest = left-first s ws c q ∙ ap (λ (rs : List Row). c.row ∷ rs) (sym r.rest);
 }

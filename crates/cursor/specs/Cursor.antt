@@ -1,6 +1,7 @@
 -- A cursor over the rows store: what a scan reads and hands out, and what is left of it at a cursor.
 -- The laws are in proofs/Cursors.antt.
-use Rattle.std.specs.Prelude.{Bool, true, false, ◌&&◌, List, [], ◌∷◌, ◌≡◌, ℕ, ◌-◌, ◌≤◌, ◌<◌, leb, drop}
+use Rattle.std.specs.Prelude.{Bool, true, ◌&&◌, List, [], ◌∷◌, ◌≡◌, ℕ, ◌-◌, ◌≤◌, ◌<◌, leb, drop}
+use Rattle.std.specs.Prelude.{Option, Some, None, IfSome, MatchOption}
 use Rattle.lists.specs.Members.{keep, gather, up_from}
 use Rattle.interval.specs.Tuple.{row_width}
 use Rattle.interval.specs.declared.time.Interval.{Interval}
@@ -35,41 +36,44 @@ pub record Scannable (s : Scan) (ws : List ℕ) : Type 0 where
   pub roomy : Roomy row_width s.room s.count ws
   pub inside : s.from.0 ≤ s.count
 
--- what is left to be handed out at a cursor, its own row first
-unfoldable pub left : Scan → List ℕ → Cursor → List Row
-left s ws c = keep (touching s.window) (drop c.place (scanned_from s ws c.partition.0))
+-- what is left to be handed out at a cursor, its own row first; where there is none, nothing
+abbrev pub left : Scan → List ℕ → Option Cursor → List Row
+left s ws None = []
+left s ws (Some c) = keep (touching s.window) (drop c.place (scanned_from s ws c.partition.0))
 
--- a cursor that stands at a row which is handed out, and has it, or past the last
+-- a cursor stands at a row which is handed out, and has it
 pub record Stands (s : Scan) (ws : List ℕ) (c : Cursor) : Type 0 where
-  pub partition : c.found ≡ true → c.partition.0 < s.count
-  pub place : c.found ≡ true → c.place < counted (partition_at s.room ws c.partition.0)
-  pub row : c.found ≡ true → c.row ≡ row_at (partition_at s.room ws c.partition.0) c.place
-  pub touched : c.found ≡ true → touching s.window c.row ≡ true
-  pub ended : c.found ≡ false → left s ws c ≡ []
+  pub partition : c.partition.0 < s.count
+  pub place : c.place < counted (partition_at s.room ws c.partition.0)
+  pub row : c.row ≡ row_at (partition_at s.room ws c.partition.0) c.place
+  pub touched : touching s.window c.row ≡ true
 
 -- at the first row that is handed out: all are left
-pub record Started (s : Scan) (ws : List ℕ) (c : Cursor) : Type 0 where
-  pub stands : Stands s ws c
-  pub rest : left s ws c ≡ chosen s ws
+pub record Started (s : Scan) (ws : List ℕ) (at : Option Cursor) : Type 0 where
+  pub stands : IfSome at (Stands s ws)
+  pub rest : left s ws at ≡ chosen s ws
 
 -- one row further: the one before was the first of those that were left
-pub record Advanced (s : Scan) (ws : List ℕ) (c c' : Cursor) : Type 0 where
-  pub stands : Stands s ws c'
-  pub rest : left s ws c ≡ c.row ∷ left s ws c'
+pub record Advanced (s : Scan) (ws : List ℕ) (c : Cursor) (at : Option Cursor) : Type 0 where
+  pub stands : IfSome at (Stands s ws)
+  pub rest : left s ws (Some c) ≡ c.row ∷ left s ws at
 
 -- ---- what the steps promise one another
 
 -- the first row from row k on, of the partition `part` with number i, that has a chronon in common with the window
-pub record Sought (window : Interval) (part : List ℕ) (i k : ℕ) (c : Cursor) : Type 0 where
+pub record Found (window : Interval) (part : List ℕ) (i k : ℕ) (c : Cursor) : Type 0 where
   pub partition : c.partition.0 ≡ i
-  pub place : c.found ≡ true → c.place < counted part
-  pub row : c.found ≡ true → c.row ≡ row_at part c.place
-  pub touched : c.found ≡ true → touching window c.row ≡ true
-  pub rest : c.found ≡ true
-      → keep (touching window) (drop c.place (rows_in part)) ≡ keep (touching window) (drop k (rows_in part))
-  pub none : c.found ≡ false → keep (touching window) (drop k (rows_in part)) ≡ []
+  pub place : c.place < counted part
+  pub row : c.row ≡ row_at part c.place
+  pub touched : touching window c.row ≡ true
+  pub rest : keep (touching window) (drop c.place (rows_in part)) ≡ keep (touching window) (drop k (rows_in part))
+
+-- it, or no row from row k on has one
+abbrev pub Sought : Interval → List ℕ → ℕ → ℕ → Option Cursor → Type 0
+Sought window part i k at =
+    MatchOption at (keep (touching window) (drop k (rows_in part)) ≡ []) (Found window part i k)
 
 -- the first row from row k of partition i on that is handed out
-pub record Reached (s : Scan) (ws : List ℕ) (i k : ℕ) (c : Cursor) : Type 0 where
-  pub stands : Stands s ws c
-  pub rest : left s ws c ≡ keep (touching s.window) (drop k (scanned_from s ws i))
+pub record Reached (s : Scan) (ws : List ℕ) (i k : ℕ) (at : Option Cursor) : Type 0 where
+  pub stands : IfSome at (Stands s ws)
+  pub rest : left s ws at ≡ keep (touching s.window) (drop k (scanned_from s ws i))

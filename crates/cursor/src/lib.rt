@@ -11,7 +11,7 @@ ghost use Rattle.part.specs.Part.{room_of, counted};
 ghost use Rattle.store.specs.Store.{partition_at};
 ghost use Rattle.cursor.specs.Cursor.{touching, Scannable, scanned, Stands, Sought, Reached, Started, Advanced};
 
-use interval::time::{Chronon, Interval};
+use interval::time::Interval;
 use interval::tuple::Row;
 use plan::PartitionIndex;
 
@@ -25,11 +25,9 @@ pub struct Scan {
     pub window: Interval,
 }
 
-// A place in what is read: whether there is a row, its partition and its place there, counted from 0, and the row, as
-// it was read; with no row, a row of zeros.
+// A row that is handed out: its partition and its place there, counted from 0, and the row, as it was read.
 #[derive(Clone, Copy)]
 pub struct Cursor {
-    pub found: bool,
     pub partition: PartitionIndex,
     pub place: usize,
     pub row: Row,
@@ -45,75 +43,46 @@ fn touches(window: Interval, row: Row) -> bool
     window.first.0 <= row.valid.last.0
 }
 
-// Past the rows of a partition: no row.
-fn past(i: PartitionIndex) -> Cursor
-    ensures { (result.found ≡ false) × (result.partition ≡ i) }
-{
-    let start = Chronon(0);
-    let valid = Interval {
-        first: start,
-        last: start,
-    };
-    let row = Row {
-        label: 0,
-        outer: 0,
-        inner: 0,
-        valid,
-    };
-    Cursor {
-        found: false,
-        partition: i,
-        place: 0,
-        row,
-    }
-}
-
 // The first row of partition i, from row k on, that touches the window. Each row is read once.
-fn seek(part: &[u64], window: Interval, i: PartitionIndex, k: usize) -> Cursor
+fn seek(part: &[u64], window: Interval, i: PartitionIndex, k: usize) -> Option<Cursor>
     requires part_in_bounds { room_of row_width (counted part.now) ≤ length part.now }
     requires k_bound { k ≤ counted part.now }
     ensures { Sought window part.now i.0 k result }
 {
     let n = part::count(part) as usize;
-    let mut place = k;
-    while place < n {
-        let row = part::row_at(part, place);
+    for place in k..n {
+        let row = part::record_at::<Row>(part, place);
         if touches(window, row) {
-            return Cursor {
-                found: true,
+            return Some(Cursor {
                 partition: i,
                 place,
                 row,
-            };
+            });
         }
-        place += 1;
     }
-    past(i)
+    None
 }
 
 // The first row, from row k of partition i on, that touches the window.
-fn reach(rows: &[u64], scan: Scan, i: PartitionIndex, k: usize) -> Cursor
+fn reach(rows: &[u64], scan: Scan, i: PartitionIndex, k: usize) -> Option<Cursor>
     requires scannable { Scannable scan rows.now }
     requires i_le_count { i.0 ≤ scan.count }
     requires k_bound { k ≤ counted (partition_at scan.room rows.now i.0) }
     ensures { Reached scan rows.now i.0 k result }
 {
-    let mut j = i.0;
     let mut place = k;
-    while j < scan.count {
+    for j in i.0..scan.count {
         let part = store::partition(rows, scan.room, PartitionIndex(j));
-        let at = seek(part, scan.window, PartitionIndex(j), place);
-        if at.found {
-            return at;
+        if let Some(at) = seek(part, scan.window, PartitionIndex(j), place) {
+            return Some(at);
         }
-        j += 1;
         place = 0;
     }
-    past(PartitionIndex(j))
+    None
 }
 
 // The first row that a scan hands out.
-pub fn first(rows: &[u64], scan: Scan) -> Cursor
+pub fn first(rows: &[u64], scan: Scan) -> Option<Cursor>
     requires { Scannable scan rows.now }
     ensures { Started scan rows.now result }
 {
@@ -121,10 +90,9 @@ pub fn first(rows: &[u64], scan: Scan) -> Cursor
 }
 
 // The next row after the one at a cursor.
-pub fn next(rows: &[u64], scan: Scan, at: Cursor) -> Cursor
+pub fn next(rows: &[u64], scan: Scan, at: Cursor) -> Option<Cursor>
     requires scannable { Scannable scan rows.now }
     requires stands { Stands scan rows.now at }
-    requires found_value { at.found ≡ true }
     ensures { Advanced scan rows.now at result }
 {
     reach(rows, scan, at.partition, at.place + 1)

@@ -36,11 +36,10 @@ pub extern "C" fn ruthgarwy_open(
         outer.old inner.old rows.old answer.old
         outer.new inner.new rows.new answer.new result }
 {
-    let refusal = layout::lent_number(plan, answer.len() == ANSWER_WORDS);
-    if refusal != 0 {
-        return layout::tell(checks::refused(refusal), answer);
-    }
-    let p = layout::plan_in(plan);
+    let p = match layout::lent_plan(plan, answer.len() == ANSWER_WORDS) {
+        Ok(p) => p,
+        Err(refusal) => return layout::tell(Err(refusal), answer),
+    };
     let a = join::open(p, outer, inner, rows);
     layout::tell(a, answer)
 }
@@ -60,11 +59,10 @@ fn change(
         outer.old inner.old rows.old answer.old
         outer.new inner.new rows.new answer.new result }
 {
-    let refusal = layout::lent_number(plan, answer.len() == ANSWER_WORDS);
-    if refusal != 0 {
-        return layout::tell(checks::refused(refusal), answer);
-    }
-    let p = layout::plan_in(plan);
+    let p = match layout::lent_plan(plan, answer.len() == ANSWER_WORDS) {
+        Ok(p) => p,
+        Err(refusal) => return layout::tell(Err(refusal), answer),
+    };
     let a = join::change(kind, p, side, t, outer, inner, rows);
     layout::tell(a, answer)
 }
@@ -147,11 +145,10 @@ pub extern "C" fn ruthgarwy_sweep(
         outer_cache.old inner_cache.old answer.old
         rows.new outer_cache.new inner_cache.new answer.new result }
 {
-    let refusal = layout::lent_number(plan, answer.len() == ANSWER_WORDS);
-    if refusal != 0 {
-        return layout::tell(checks::refused(refusal), answer);
-    }
-    let p = layout::plan_in(plan);
+    let p = match layout::lent_plan(plan, answer.len() == ANSWER_WORDS) {
+        Ok(p) => p,
+        Err(refusal) => return layout::tell(Err(refusal), answer),
+    };
     let a = join::sweep(p, outer, inner, rows, outer_cache, inner_cache);
     layout::tell(a, answer)
 }
@@ -172,14 +169,13 @@ pub extern "C" fn ruthgarwy_repartition(
         plan.new outer.new inner.new rows.new answer.new result }
 {
     let fits = answer.len() == ANSWER_WORDS;
-    let refusal = layout::lent_number(plan, fits & (cuts.len() == PLACES));
-    if refusal != 0 {
-        return layout::tell(checks::refused(refusal), answer);
-    }
-    let p = layout::plan_in(plan);
+    let p = match layout::lent_plan(plan, fits & (cuts.len() == PLACES)) {
+        Ok(p) => p,
+        Err(refusal) => return layout::tell(Err(refusal), answer),
+    };
     let new = join::repartition(p, layout::lasts_in(cuts, 0), outer, inner, rows);
     let a = new.answer;
-    if a.number != 0 {
+    if a.is_err() {
         return layout::tell(a, answer);
     }
     let next = new.plan;
@@ -201,13 +197,12 @@ pub extern "C" fn ruthgarwy_requirements(
         outer.now inner.now report.old answer.old
         report.new answer.new result }
 {
-    let refusal = layout::lent_number(plan, answer.len() == REQUIREMENTS_WORDS);
-    if refusal != 0 {
-        return layout::tell_requirements(refusal, 0, 0, 0, answer);
-    }
-    let p = layout::plan_in(plan);
+    let p = match layout::lent_plan(plan, answer.len() == REQUIREMENTS_WORDS) {
+        Ok(p) => p,
+        Err(refusal) => return layout::tell_requirements(Err(refusal), answer),
+    };
     let r = requirements::of_sweep(p, outer, inner, report);
-    layout::tell_requirements(r.number, r.outer, r.inner, r.pairs, answer)
+    layout::tell_requirements(r, answer)
 }
 
 // A screenful of questions.
@@ -222,11 +217,10 @@ pub extern "C" fn ruthgarwy_questions(
         rows.now questions.old answer.old
         questions.new answer.new result }
 {
-    let refusal = layout::lent_number(plan, answer.len() == ANSWER_WORDS);
-    if refusal != 0 {
-        return layout::tell(checks::refused(refusal), answer);
-    }
-    let p = layout::plan_in(plan);
+    let p = match layout::lent_plan(plan, answer.len() == ANSWER_WORDS) {
+        Ok(p) => p,
+        Err(refusal) => return layout::tell(Err(refusal), answer),
+    };
     let a = question_words::answer(p, rows, questions);
     layout::tell(a, answer)
 }
@@ -244,11 +238,10 @@ pub extern "C" fn ruthgarwy_gaps(
         outer.now inner.now gaps.old answer.old
         gaps.new answer.new result }
 {
-    let refusal = layout::lent_number(plan, answer.len() == ANSWER_WORDS);
-    if refusal != 0 {
-        return layout::tell(checks::refused(refusal), answer);
-    }
-    let p = layout::plan_in(plan);
+    let p = match layout::lent_plan(plan, answer.len() == ANSWER_WORDS) {
+        Ok(p) => p,
+        Err(refusal) => return layout::tell(Err(refusal), answer),
+    };
     let a = gaps::list(p, outer, inner, gaps);
     layout::tell(a, answer)
 }

@@ -13,7 +13,7 @@ use borrow.Author.Tests.{ltb-false}
 use Rattle.lists.proofs.Choice.{refuse-none, answer-here, answer-next, answer-last}
 use Rattle.plan.specs.declared.Partitioning.{Partitioning}
 use Rattle.checks.specs.Stores.{sides_number, Says, Counts}
-use Rattle.checks.specs.declared.Answer.{Answer}
+use Rattle.checks.specs.Answer.{Answer}
 use Rattle.gaps.specs.Listed.{gaps, record_words, words_for, room_check, gaps_number, GapsListed}
 use Rattle.gaps.specs.Placing.{Placed}
 use Rattle.gaps.proofs.Placing.{length-words}

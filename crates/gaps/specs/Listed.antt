@@ -9,7 +9,8 @@ use Rattle.plan.specs.declared.Partitioning.{Partitioning}
 use Rattle.store.specs.Store.{stored_tuples}
 use Rattle.coverage.specs.Gaps.{rows_of, gaps_of}
 use Rattle.checks.specs.Stores.{sides_number}
-use Rattle.checks.specs.declared.Answer.{Answer}
+use Rattle.refusal.specs.Refusal.{answer_number}
+use Rattle.checks.specs.Answer.{Answer, changed_of, examined_of}
 
 -- the gaps of one drawing as records, "label, drawing number, first, last": the drawing with the stretch for its span
 unfoldable pub gaps_by : Partitioning → List ℕ → Tuple → List Tuple
@@ -38,18 +39,18 @@ gaps_number p outer inner room =
 -- a refusal: "No refusal changes any buffer", "both 0 on a refusal"
 pub record NothingListed (out out' : List ℕ) (a : Answer) : Type 0 where
   pub kept : out' ≡ out
-  pub records : a.changed ≡ 0
-  pub examined : a.examined ≡ 0
+  pub records : changed_of a ≡ 0
+  pub examined : examined_of a ≡ 0
 
 -- "the first count is the number of records, and the words after them keep their contents"; the second is 0, "0 where
 -- none is named"
 pub record RecordsListed (p : Partitioning) (outer inner out out' : List ℕ) (a : Answer) : Type 0 where
   pub written : out' ≡ record_words (gaps p outer inner) ++ drop (words_for (length (gaps p outer inner))) out
-  pub records : a.changed ≡ length (gaps p outer inner)
-  pub examined : a.examined ≡ 0
+  pub records : changed_of a ≡ length (gaps p outer inner)
+  pub examined : examined_of a ≡ 0
 
 -- the call: lent outer and inner to be read, out before and out' after it
 pub record GapsListed (p : Partitioning) (outer inner out out' : List ℕ) (a : Answer) : Type 0 where
-  pub number : a.number ≡ gaps_number p outer inner (length out)
-  pub refused : (a.number ≡ 0 → ⊥) → NothingListed out out' a
-  pub accepted : a.number ≡ 0 → RecordsListed p outer inner out out' a
+  pub number : answer_number a ≡ gaps_number p outer inner (length out)
+  pub refused : (answer_number a ≡ 0 → ⊥) → NothingListed out out' a
+  pub accepted : answer_number a ≡ 0 → RecordsListed p outer inner out out' a

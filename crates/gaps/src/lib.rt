@@ -9,6 +9,7 @@
 #![tactic(auto)]
 
 ghost use Rattle.std.specs.Prelude.{true, [], ◌∷◌, ◌≡◌, ◌+◌, ◌*◌, ◌≤◌, length};
+ghost use Rattle.refusal.specs.Refusal.{answer_number};
 ghost use Rattle.std.specs.Int.{w64};
 ghost use Rattle.std.proofs.Common.{Fits};
 ghost use Rattle.lists.specs.Members.{all, gather};
@@ -20,10 +21,12 @@ ghost use Rattle.store.specs.Sides.{Sides};
 ghost use Rattle.gaps.specs.Listed.{gaps_by, gaps, words_for, room_check, GapsListed};
 ghost use Rattle.gaps.specs.Placing.{Placed};
 
-use checks::Answer;
+use checks::{Answer, Counted};
+use encoding::Record;
 use interval::time::{Chronon, Interval};
 use interval::tuple::{TUPLE_WIDTH, Tuple};
 use plan::{PartitionIndex, Partitioning};
+use refusal::Refusal;
 
 // Writes a record after k others, where the buffer has room for it; gives how many there are then.
 fn put(out: &mut [u64], k: usize, t: Tuple) -> usize
@@ -33,7 +36,7 @@ fn put(out: &mut [u64], k: usize, t: Tuple) -> usize
     let at = TUPLE_WIDTH * k;
     let end = at + TUPLE_WIDTH;
     if end <= out.len() {
-        encoding::write_tuple(out, at, t);
+        t.write(out, at);
     }
     k + 1
 }
@@ -50,6 +53,7 @@ fn list_tuple(p: Partitioning, d: Tuple, inner: &[u64], out: &mut [u64], k: usiz
     let end = d.valid.last.0;
     let mut records = k;
     let mut m = d.valid.first.0;
+    // The minute jumps behind a covered stretch: no counter bounds it.
     while m <= end {
         let next = coverage::next_covered(p, d, inner, Chronon(m));
         if m < next.first.0 {
@@ -77,11 +81,9 @@ fn list_partition(p: Partitioning, part: &[u64], inner: &[u64], out: &mut [u64],
 {
     let n = part::count(part) as usize;
     let mut records = k;
-    let mut i: usize = 0;
-    while i < n {
-        let d = part::tuple_at(part, i);
+    for i in 0..n {
+        let d = part::record_at(part, i);
         records = list_tuple(p, d, inner, out, records);
-        i += 1;
     }
     records
 }
@@ -94,21 +96,22 @@ fn list_store(p: Partitioning, outer: &[u64], inner: &[u64], out: &mut [u64]) ->
 {
     let room = store::tuple_room(p);
     let mut records: usize = 0;
-    let mut i: u64 = 0;
-    while i < p.count {
+    for i in 0..p.count {
         let part = store::partition(outer, room, PartitionIndex(i));
         records = list_partition(p, part, inner, out, records);
-        i += 1;
     }
     records
 }
 
-// Check 19 of a buffer of `room` words for so many records: 19, or 0 if they fit.
-fn room_check(room: usize, records: usize) -> u64
+// Check 19 of a buffer of `room` words for so many records: they do not fit.
+fn room_check(room: usize, records: usize) -> Result<(), Refusal>
     requires { Fits w64 (words_for records) }
-    ensures { result ≡ room_check room records }
+    ensures { answer_number result ≡ room_check room records }
 {
-    if room < TUPLE_WIDTH * records { 19 } else { 0 }
+    if room < TUPLE_WIDTH * records {
+        return Err(Refusal::ShortBuffer);
+    }
+    Ok(())
 }
 
 // Lists the gaps of the stored drawings: the call.
@@ -116,15 +119,12 @@ pub fn list(p: Partitioning, outer: &[u64], inner: &[u64], out: &mut [u64]) -> A
     ensures { GapsListed p outer.now inner.now
         out.old out.new result }
 {
-    let number = checks::sides_number(p, outer, inner);
-    if number != 0 {
-        return checks::refused(number);
-    }
+    checks::sides_number(p, outer, inner)?;
     let records = list_store(p, outer, inner, &mut out[0..0]);
-    let short = room_check(out.len(), records);
-    if short != 0 {
-        return checks::refused(short);
-    }
+    room_check(out.len(), records)?;
     list_store(p, outer, inner, out);
-    checks::accepted(records as u64, 0)
+    Ok(Counted {
+        changed: records as u64,
+        examined: 0,
+    })
 }

@@ -13,7 +13,8 @@ use Rattle.plan.specs.Plan.{most_partitions, plan_number}
 use Rattle.plan.specs.declared.Partitioning.{Partitioning}
 use Rattle.rows.proofs.Joins.{join-empty-left}
 use Rattle.checks.specs.Stores.{Stores}
-use Rattle.checks.specs.declared.Answer.{Answer}
+use Rattle.refusal.specs.Refusal.{answer_number}
+use Rattle.checks.specs.Answer.{Answer}
 use Rattle.checks.proofs.Checks.{fitting}
 use Rattle.join.specs.Opening.{Opened}
 use Rattle.store.proofs.StoreLoops.{tuples-given, rows-given}
@@ -35,7 +36,7 @@ first p = record { plan = p; outer = []; inner = [] }
 
 pub opened-kept : (p : Partitioning) → length p.lasts ≡ most_partitions → plan_number p ≡ 0
     → (s s₀ : Stores) (a : Answer)
-    → Opened p s s₀ a → a.number ≡ 0 → Kept (first p) p s₀
+    → Opened p s s₀ a → answer_number a ≡ 0 → Kept (first p) p s₀
 opened-kept p places legal s s₀ a o z =
     let f = fitting p (length s.outer) (length s.inner) (length s.rows) (sym o.number ∙ z) in
     rw (o.accepted z)
@@ -54,15 +55,15 @@ zero_or_not : (n : ℕ) → (n ≡ 0) ⊎ (n ≡ 0 → ⊥)
 zero_or_not n = ⊎_elim (λ e. inl (eqb-true n 0 e)) (λ e. inr (eqb-false n 0 e)) (bool_cases (eqb n 0))
 
 pub step-done : {p p' : Partitioning} {s s' : Stores} {c : Call} {a : Answer} (m : Machine) → Kept m p s
-    → Step p s c a p' s' → Done m p s c a.number p' s'
+    → Step p s c a p' s' → Done m p s c (answer_number a) p' s'
 step-done m k (inserted {p = p} {side = side} {t = t} {s = s} {s' = s'} {a = a} h) =
-    insert-done m p side t s s' a k h (zero_or_not a.number)
+    insert-done m p side t s s' a k h (zero_or_not (answer_number a))
 step-done m k (deleted {p = p} {side = side} {t = t} {s = s} {s' = s'} {a = a} h) =
-    delete-done m p side t s s' a k h (zero_or_not a.number)
+    delete-done m p side t s s' a k h (zero_or_not (answer_number a))
 step-done m k (swept {p = p} {s = s} {s' = s'} {a = a} c d c' d' h) =
-    sweep-done m p s s' c d c' d' a k h (zero_or_not a.number)
+    sweep-done m p s s' c d c' d' a k h (zero_or_not (answer_number a))
 step-done m k (repartitioned {p = p} {p' = p'} {new = new} {s = s} {s' = s'} {a = a} long h) =
-    repartition-done m p p' new s s' a k long h (zero_or_not a.number)
+    repartition-done m p p' new s s' a k long h (zero_or_not (answer_number a))
 
 -- ---- every list of calls
 
@@ -79,7 +80,7 @@ run-kept {p₀ = p₀} k fresh = (first p₀, refl, k, tt)
 run-kept {p₀ = p₀} k (then {ts = ts} {p = p} {p' = p'} {s = s} {s' = s'} {c = c} {a = a} r st) =
     let h = run-kept k r in
     let d = step-done h.0 h.2 st in
-    let e = machine-next p₀ (record { call = c; number = a.number }) ts h.0 d.after h.1 d.machine in
+    let e = machine-next p₀ (record { call = c; number = (answer_number a) }) ts h.0 d.after h.1 d.machine in
     (d.after, e, d.kept, (h.3, rw e d.owed))
 
 pub kept-current : KeptCurrent

@@ -33,7 +33,8 @@ use Rattle.rows.specs.declared.Side.{Side}
 use Rattle.rows.specs.declared.Side.TheVariants.{Outer, Inner}
 use Rattle.rows.proofs.Joins.{rows-at-append}
 use Rattle.checks.specs.Stores.{Stores, store_number}
-use Rattle.checks.specs.declared.Answer.{Answer}
+use Rattle.refusal.specs.Refusal.{answer_number}
+use Rattle.checks.specs.Answer.{Answer}
 use Rattle.insertion.specs.Changes.{Grown}
 use Rattle.deletion.specs.Deletes.{deleted}
 use Rattle.join.specs.Changes.{own_store, other_store, delete_number, Deleted}
@@ -174,14 +175,14 @@ module _ (m : Machine) (p : Partitioning) (side : Side) (t : Tuple) (s s' : Stor
   rest = without (same_tuple t) (own_tuples side m)
 
   -- the machine has one
-  has_one : a.number ≡ 0 → any (same_tuple t) (own_tuples side m) ≡ true
+  has_one : answer_number a ≡ 0 → any (same_tuple t) (own_tuples side m) ≡ true
   has_one z =
       let e = passed p side t s (sym called.number ∙ z) in
       among p t (own_store side s) (own_tuples side m) (kept_from side m p s k).mine
       (home-in-plan p k.legal k.places t e.0) e.1
 
   -- the stores after an accepted delete, seen from the tuple's side
-  accepted-wall : a.number ≡ 0
+  accepted-wall : answer_number a ≡ 0
       → Wall p side (own_store side s') (other_store side s') s'.rows rest (other_tuples side m)
   accepted-wall z =
       let w = kept_from side m p s k in
@@ -207,10 +208,10 @@ module _ (m : Machine) (p : Partitioning) (side : Side) (t : Tuple) (s s' : Stor
   take-is Inner e = pick_true (any (same_tuple t) m.inner) _ none e
 
   -- accepted or refused
-  pub delete-done : (a.number ≡ 0) ⊎ (a.number ≡ 0 → ⊥) → Done m p s (delete side t) a.number p s'
+  pub delete-done : (answer_number a ≡ 0) ⊎ (answer_number a ≡ 0 → ⊥) → Done m p s (delete side t) (answer_number a) p s'
   delete-done (inl z) = record {
     after = with_own side rest m;
-    machine = told-accepted (delete side t) a.number m z ∙ take-is side (has_one z);
+    machine = told-accepted (delete side t) (answer_number a) m z ∙ take-is side (has_one z);
     kept = kept-with side rest m p s s' k (accepted-wall z);
     owed = λ e i l apart.
         sym
@@ -218,4 +219,4 @@ module _ (m : Machine) (p : Partitioning) (side : Side) (t : Tuple) (s s' : Stor
         i l apart);
   }
   delete-done (inr ne) =
-      done_refused m p p s s' (delete side t) a.number ne k refl (called.refused ne).kept (λ e. absurd (ne e))
+      done_refused m p p s s' (delete side t) (answer_number a) ne k refl (called.refused ne).kept (λ e. absurd (ne e))

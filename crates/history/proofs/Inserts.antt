@@ -28,7 +28,8 @@ use Rattle.rows.specs.declared.Side.{Side}
 use Rattle.rows.specs.declared.Side.TheVariants.{Outer, Inner}
 use Rattle.rows.proofs.Joins.{rows-at-append}
 use Rattle.checks.specs.Stores.{Stores, store_number}
-use Rattle.checks.specs.declared.Answer.{Answer}
+use Rattle.refusal.specs.Refusal.{answer_number}
+use Rattle.checks.specs.Answer.{Answer}
 use Rattle.insertion.specs.Changes.{Grown}
 use Rattle.insertion.specs.Inserts.{full, inserted}
 use Rattle.insertion.proofs.Sites.{legal-is}
@@ -118,7 +119,7 @@ passed p side t s e =
 module _ (m : Machine) (p : Partitioning) (side : Side) (t : Tuple) (s s' : Stores) (a : Answer) (k : Kept m p s)
     (called : Inserted p side t s s' a) where
   -- the stores after an accepted insert, seen from the tuple's side
-  accepted-wall : a.number ≡ 0
+  accepted-wall : answer_number a ≡ 0
       → Wall p side (own_store side s') (other_store side s') s'.rows (t ∷ own_tuples side m) (other_tuples side m)
   accepted-wall z =
       let w = kept_from side m p s k in
@@ -140,13 +141,13 @@ module _ (m : Machine) (p : Partitioning) (side : Side) (t : Tuple) (s s' : Stor
   put_is Inner = refl
 
   -- accepted or refused
-  pub insert-done : (a.number ≡ 0) ⊎ (a.number ≡ 0 → ⊥) → Done m p s (insert side t) a.number p s'
+  pub insert-done : (answer_number a ≡ 0) ⊎ (answer_number a ≡ 0 → ⊥) → Done m p s (insert side t) (answer_number a) p s'
   insert-done (inl z) = record {
     after = with_own side (t ∷ own_tuples side m) m;
-    machine = told-accepted (insert side t) a.number m z ∙ ap some (put_is side);
+    machine = told-accepted (insert side t) (answer_number a) m z ∙ ap some (put_is side);
     kept = kept-with side (t ∷ own_tuples side m) m p s s' k (accepted-wall z);
     owed = λ e.
         untouched p k.legal k.places side t (other_store side s) s.rows s'.rows (called.accepted z).rows;
   }
   insert-done (inr ne) =
-      done_refused m p p s s' (insert side t) a.number ne k refl (called.refused ne).kept (λ e. absurd (ne e))
+      done_refused m p p s s' (insert side t) (answer_number a) ne k refl (called.refused ne).kept (λ e. absurd (ne e))

@@ -34,7 +34,8 @@ use Rattle.rows.specs.Join.{join_of, made_with}
 use Rattle.rows.specs.declared.Side.TheVariants.{Outer}
 use Rattle.rows.proofs.Joins.{made-legal, join-outer-more, join-empty-left, rows-at-same}
 use Rattle.checks.specs.Stores.{Stores}
-use Rattle.checks.specs.declared.Answer.{Answer}
+use Rattle.refusal.specs.Refusal.{answer_number}
+use Rattle.checks.specs.Answer.{Answer}
 use Rattle.repartitioning.specs.Moving.{Moved, TuplesMoved}
 use Rattle.repartitioning.proofs.Recuts.{with-cuts-places, with-cuts-legal}
 use Rattle.join.specs.Repartitioning.{Repartitioned}
@@ -132,7 +133,7 @@ module _ (m : Machine) (p p' : Partitioning) (new : List Chronon) (s s' : Stores
   abbrev with-cuts : Machine
   with-cuts = record { plan = with_cuts m.plan new; outer = m.outer; inner = m.inner }
 
-  kept-with-cuts : a.number ≡ 0 → Kept with-cuts (with_cuts p new) s'
+  kept-with-cuts : answer_number a ≡ 0 → Kept with-cuts (with_cuts p new) s'
   unfolding with_cuts
   kept-with-cuts z =
       let checked = passed p new s (sym called.number ∙ z) in
@@ -147,7 +148,7 @@ module _ (m : Machine) (p p' : Partitioning) (new : List Chronon) (s s' : Stores
             rows-with-cuts p new s s' (joined m p s k) k.rows (joined-homed m p s k) moved;
       }
 
-  accepted-kept : a.number ≡ 0 → Kept with-cuts p' s'
+  accepted-kept : answer_number a ≡ 0 → Kept with-cuts p' s'
   accepted-kept z = rw (called.accepted z).0 (kept-with-cuts z)
 
   -- the plan of a machine that is there
@@ -158,13 +159,13 @@ module _ (m : Machine) (p p' : Partitioning) (new : List Chronon) (s s' : Stores
       plan-or (some x) = x.plan
       plan-or none = q
 
-  pub repartition-done : (a.number ≡ 0) ⊎ (a.number ≡ 0 → ⊥) → Done m p s (repartition new) a.number p' s'
+  pub repartition-done : (answer_number a ≡ 0) ⊎ (answer_number a ≡ 0 → ⊥) → Done m p s (repartition new) (answer_number a) p' s'
   repartition-done (inl z) = record {
     after = with-cuts;
-    machine = told-accepted (repartition new) a.number m z;
+    machine = told-accepted (repartition new) (answer_number a) m z;
     kept = accepted-kept z;
     owed = plan-of p' with-cuts (accepted-kept z).in_force;
   }
   repartition-done (inr ne) =
       let (stores, plan) = called.refused ne in
-      done_refused m p p' s s' (repartition new) a.number ne k plan stores (plan-of p' m (plan ∙ k.in_force))
+      done_refused m p p' s s' (repartition new) (answer_number a) ne k plan stores (plan-of p' m (plan ∙ k.in_force))

@@ -13,7 +13,8 @@ use Rattle.rows.specs.Join.{join_of}
 use Rattle.rows.proofs.Joins.{join-same}
 use Rattle.sweep_count.specs.Pairs.{joined}
 use Rattle.checks.specs.Stores.{Stores}
-use Rattle.checks.specs.declared.Answer.{Answer}
+use Rattle.refusal.specs.Refusal.{answer_number}
+use Rattle.checks.specs.Answer.{Answer}
 use Rattle.join.specs.Sweeps.{Swept}
 use Rattle.history.specs.Machine.{sweep, Machine}
 use Rattle.history.proofs.Held.{TupleStore, rows-held-same}
@@ -28,7 +29,7 @@ joined-held p outer inner ds ss h k =
 
 module _ (m : Machine) (p : Partitioning) (s s' : Stores) (c d c' d' : List ℕ) (a : Answer) (k : Kept m p s)
     (called : Swept p s c d s' c' d' a) where
-  accepted-kept : a.number ≡ 0 → Kept m p s'
+  accepted-kept : answer_number a ≡ 0 → Kept m p s'
   accepted-kept z =
       let r = called.accepted z in
       record {
@@ -43,12 +44,12 @@ module _ (m : Machine) (p : Partitioning) (s s' : Stores) (c d c' d' : List ℕ)
             (joined-held p s.outer s.inner m.outer m.inner k.outer k.inner);
       }
 
-  pub sweep-done : (a.number ≡ 0) ⊎ (a.number ≡ 0 → ⊥) → Done m p s sweep a.number p s'
+  pub sweep-done : (answer_number a ≡ 0) ⊎ (answer_number a ≡ 0 → ⊥) → Done m p s sweep (answer_number a) p s'
   sweep-done (inl z) = record {
     after = m;
-    machine = told-accepted sweep a.number m z;
+    machine = told-accepted sweep (answer_number a) m z;
     kept = accepted-kept z;
     owed = tt;
   }
   sweep-done (inr ne) =
-      done_refused m p p s s' sweep a.number ne k refl (called.refused ne).0.kept tt
+      done_refused m p p s s' sweep (answer_number a) ne k refl (called.refused ne).0.kept tt

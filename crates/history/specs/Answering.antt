@@ -13,7 +13,8 @@ use Rattle.store.specs.Store.{tuples_at, rows_at}
 use Rattle.rows.specs.Join.{join_of}
 use Rattle.rows.specs.declared.Side.{Side}
 use Rattle.checks.specs.Stores.{Stores}
-use Rattle.checks.specs.declared.Answer.{Answer}
+use Rattle.refusal.specs.Refusal.{answer_number}
+use Rattle.checks.specs.Answer.{Answer}
 use Rattle.join.specs.Opening.{Opened}
 use Rattle.join.specs.Changes.{Inserted, Deleted}
 use Rattle.history.specs.Machine.{Told, Machine, own_tuples, put, machine_after}
@@ -52,9 +53,9 @@ delete_answer m side t = first_of (tuple_number t ∷ refuse_if (none_equal m si
 abbrev pub AnsweredByMachine : Type 0
 AnsweredByMachine =
     (p : Partitioning) → length p.lasts ≡ 64 → plan_number p ≡ 0
-    → (s s₀ : Stores) (a : Answer) → Opened p s s₀ a → a.number ≡ 0
+    → (s s₀ : Stores) (a : Answer) → Opened p s s₀ a → answer_number a ≡ 0
     → (ts : List Told) (p' : Partitioning) (s' : Stores) → Run p s₀ ts p' s'
     → (m : Machine) → machine_after p ts ≡ some m
     → (side : Side) (t : Tuple) (s'' : Stores) (b : Answer)
-    → (Inserted p' side t s' s'' b → b.number ≡ insert_answer m side t)
-    × (Deleted p' side t s' s'' b → b.number ≡ delete_answer m side t)
+    → (Inserted p' side t s' s'' b → answer_number b ≡ insert_answer m side t)
+    × (Deleted p' side t s' s'' b → answer_number b ≡ delete_answer m side t)

@@ -8,7 +8,8 @@ use Rattle.store.specs.Store.{row_part, TuplesHeld, RowsHeld}
 use Rattle.rows.specs.Join.{join_of}
 use Rattle.sweep_count.specs.Pairs.{touches}
 use Rattle.checks.specs.Stores.{Stores, fits, sound}
-use Rattle.checks.specs.declared.Answer.{Answer}
+use Rattle.refusal.specs.Refusal.{answer_number}
+use Rattle.checks.specs.Answer.{Answer}
 use Rattle.join.specs.Opening.{Opened}
 use Rattle.history.specs.Machine.{Call, insert, delete, sweep, repartition, Told, Machine, machine_after}
 use Rattle.history.specs.Runs.{Run, fresh, then}
@@ -40,13 +41,13 @@ abbrev pub AllOwed : {p₀ : Partitioning} {s₀ : Stores} {ts : List Told} {p :
     → Run p₀ s₀ ts p s → Type 0
 AllOwed fresh = Unit {0}
 AllOwed {p₀ = p₀} (then {ts = ts} {p = p} {p' = p'} {s = s} {s' = s'} {c = c} {a = a} r st) =
-    AllOwed r × Owed p s c a.number p' s' (machine_after p₀ (record { call = c; number = a.number } ∷ ts))
+    AllOwed r × Owed p s c (answer_number a) p' s' (machine_after p₀ (record { call = c; number = (answer_number a) } ∷ ts))
 
 -- Demand 3: for every legal plan (of 64 places), every accepted open, every list of calls after it: the machine has not
 -- failed, the stores hold what it holds, and each call gave what is owed of it.
 abbrev pub KeptCurrent : Type 0
 KeptCurrent =
     (p : Partitioning) → length p.lasts ≡ 64 → plan_number p ≡ 0
-    → (s s₀ : Stores) (a : Answer) → Opened p s s₀ a → a.number ≡ 0
+    → (s s₀ : Stores) (a : Answer) → Opened p s s₀ a → answer_number a ≡ 0
     → (ts : List Told) (p' : Partitioning) (s' : Stores) (run : Run p s₀ ts p' s')
     → (m : Machine) × (machine_after p ts ≡ some m) × Current m p' s' × AllOwed run

@@ -6,7 +6,8 @@ use Rattle.interval.specs.declared.tuple.Tuple.{Tuple}
 use Rattle.plan.specs.declared.Partitioning.{Partitioning}
 use Rattle.rows.specs.declared.Side.{Side}
 use Rattle.checks.specs.Stores.{Stores}
-use Rattle.checks.specs.declared.Answer.{Answer}
+use Rattle.refusal.specs.Refusal.{answer_number}
+use Rattle.checks.specs.Answer.{Answer}
 use Rattle.join.specs.Changes.{Inserted, Deleted}
 use Rattle.join.specs.Sweeps.{Swept}
 use Rattle.join.specs.Repartitioning.{Repartitioned}
@@ -28,4 +29,4 @@ pub data Step : Partitioning → Stores → Call → Answer → Partitioning →
 pub data Run (p₀ : Partitioning) (s₀ : Stores) : List Told → Partitioning → Stores → Type 0 where
   fresh : Run p₀ s₀ [] p₀ s₀
   then : {ts : List Told} {p p' : Partitioning} {s s' : Stores} {c : Call} {a : Answer}
-      → Run p₀ s₀ ts p s → Step p s c a p' s' → Run p₀ s₀ (record { call = c; number = a.number } ∷ ts) p' s'
+      → Run p₀ s₀ ts p s → Step p s c a p' s' → Run p₀ s₀ (record { call = c; number = (answer_number a) } ∷ ts) p' s'

@@ -1,6 +1,5 @@
 // Label fields: every single byte, every two bytes, and rows of the letters Z and z of each length from 0 to 10.
 use crate::report;
-use label::LabelField;
 use std::io;
 
 #[derive(Clone, Copy)]
@@ -11,26 +10,10 @@ struct Counts {
     refused: u64,
 }
 
-// Whether the crate takes the field for a label.
-fn is_label(answer: LabelField) -> bool {
-    match answer {
-        LabelField::Number(_) => true,
-        LabelField::Malformed => false,
-    }
-}
-
-// The number of the label, or 0 if the field is none.
-fn number_in(answer: LabelField) -> u64 {
-    match answer {
-        LabelField::Number(number) => number,
-        LabelField::Malformed => 0,
-    }
-}
-
 // One field more. `wanted` is the number of the label that it is, or 0 if it is none; no label has the number 0.
-fn count(n: Counts, wanted: u64, answer: LabelField) -> Counts {
-    let label = is_label(answer);
-    let number = number_in(answer);
+fn count(n: Counts, wanted: u64, answer: Option<u64>) -> Counts {
+    let label = answer.is_some();
+    let number = answer.unwrap_or(0);
     Counts {
         cases: report::more(n.cases),
         wrong: report::more_unless((label == (0 < number)) & (number == wanted), n.wrong),
@@ -142,11 +125,11 @@ fn number_of_z(length: usize) -> u64 {
     }
 }
 
-fn read_first(bytes: &[u8], length: usize) -> LabelField {
+fn read_first(bytes: &[u8], length: usize) -> Option<u64> {
     if length <= bytes.len() {
         label::read_label(&bytes[0..length])
     } else {
-        LabelField::Malformed
+        None
     }
 }
 

@@ -1,6 +1,6 @@
 // Overlaps: all pairs of spans over the minutes 0 to 12, reversed spans too, against a walk over the minutes.
 use crate::report;
-use interval::time::{Chronon, Interval, Overlap};
+use interval::time::{Chronon, Interval};
 use std::io;
 
 // What a walk has seen: how many minutes lie in both spans, the first of them and the last.
@@ -59,25 +59,18 @@ fn saw(w: Seen, span: Interval) -> bool {
 }
 
 // The answer is what the walk saw.
-fn agrees(w: Seen, answer: Overlap) -> bool {
+fn agrees(w: Seen, answer: Option<Interval>) -> bool {
     match answer {
-        Overlap::Common(span) => saw(w, span),
-        Overlap::Nothing => w.found == 0,
+        Some(span) => saw(w, span),
+        None => w.found == 0,
     }
 }
 
-fn is_common(answer: Overlap) -> bool {
-    match answer {
-        Overlap::Common(_) => true,
-        Overlap::Nothing => false,
-    }
-}
-
-fn count(n: Counts, w: Seen, answer: Overlap) -> Counts {
+fn count(n: Counts, w: Seen, answer: Option<Interval>) -> Counts {
     Counts {
         cases: report::more(n.cases),
         wrong: report::more_unless(agrees(w, answer), n.wrong),
-        common: report::more_unless(!is_common(answer), n.common),
+        common: report::more_unless(answer.is_none(), n.common),
     }
 }
 

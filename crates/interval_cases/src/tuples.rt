@@ -66,7 +66,7 @@ fn one_tuple(n: Counts, k: u64) -> Counts {
             last: Chronon(minute(k % 6)),
         },
     };
-    let answer = interval::tuple::tuple_number(t);
+    let answer = refusal::answer_number(interval::tuple::tuple_number(t));
     Counts {
         cases: report::more(n.cases),
         wrong: report::more_unless(answer == rule(t), n.wrong),

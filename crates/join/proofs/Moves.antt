@@ -8,6 +8,7 @@ use mathlib.Core.Path.{◌≡◌, refl, sym, ap, ◌∙◌}
 use Prim.Native.Nat.{ℕ, zero, suc, ◌*◌, ◌<◌}
 use native.Mathlib.Omega.{arith}
 use lib.ListN.{length, take, replicate, length-replicate}
+use Rattle.refusal.specs.Refusal.{answer_number}
 use Rattle.lists.specs.Choice.{refuse_if, first_of}
 use Rattle.lists.specs.Members.{all, gather, below}
 use Rattle.lists.specs.Same.{IsEquality, Same}
@@ -185,9 +186,9 @@ rows-kept p new ws ws' m long sound e =
     rows-nothing (with_cuts p new) ws' (m.long ∙ long) m.sound none ∙ sym (rows-nothing p ws long sound e)
 
 pub empty-kept : EmptyKept
-empty-kept p p' new s s' a called passed outer inner rows = decide a.number refl
+empty-kept p p' new s s' a called passed outer inner rows = decide (answer_number a) refl
   where
-    decide : (n : ℕ) → a.number ≡ n → s' ≡ s
+    decide : (n : ℕ) → answer_number a ≡ n → s' ≡ s
     decide zero z =
         let r = ready p s passed in
         let m = (called.accepted z).1 in
@@ -204,9 +205,9 @@ empty-kept p p' new s s' a called passed outer inner rows = decide a.number refl
 
 pub minimum-kept : MinimumKept
 unfolding with_cuts
-minimum-kept p p' new s s' a r = by_number a.number refl
+minimum-kept p p' new s s' a r = by_number (answer_number a) refl
   where
-    by_number : (n : ℕ) → a.number ≡ n → p'.minimum ≡ p.minimum
+    by_number : (n : ℕ) → answer_number a ≡ n → p'.minimum ≡ p.minimum
     by_number zero e = ap (λ (q : Partitioning). q.minimum) (r.accepted e).0
     by_number (suc n) e =
         ap (λ (q : Partitioning). q.minimum) (r.refused (λ z. omega (arith, z, e))).1

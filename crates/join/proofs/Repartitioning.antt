@@ -13,7 +13,7 @@ use Rattle.interval.specs.declared.time.Chronon.{Chronon}
 use Rattle.plan.specs.Plan.{most_partitions, cover, numbers, with_cuts}
 use Rattle.plan.specs.declared.Partitioning.{Partitioning}
 use Rattle.checks.specs.Stores.{Stores, store_number, Says, Counts}
-use Rattle.checks.specs.declared.Answer.{Answer}
+use Rattle.checks.specs.Answer.{Answer}
 use Rattle.checks.proofs.Checks.{ready}
 use Rattle.repartitioning.specs.Moving.{tuples_overfull, rows_overfull, move_number, Moved, Recut, TuplesStand, RowsStand}
 use Rattle.repartitioning.proofs.Recuts.{with-cuts-recut}

@@ -10,7 +10,8 @@ use Rattle.plan.specs.declared.Partitioning.{Partitioning}
 use Rattle.part.specs.Part.{tuples_in, rows_in}
 use Rattle.store.specs.Store.{tuple_part, row_part, stored_tuples, stored_rows, tuples_at, rows_at}
 use Rattle.checks.specs.Stores.{Stores, store_number}
-use Rattle.checks.specs.declared.Answer.{Answer}
+use Rattle.refusal.specs.Refusal.{answer_number}
+use Rattle.checks.specs.Answer.{Answer, changed_of, examined_of}
 use Rattle.repartitioning.specs.Moving.{move_number, Moved}
 
 -- 2: "also a recut's new ones, after 5"; then 9 and 10 of the stores by the plan with the new cuts; "13 is never given
@@ -25,11 +26,11 @@ repartition_number p new s =
 -- counts are 0, "0 where none is named"
 pub record Repartitioned (p : Partitioning) (new : List Chronon) (s s' : Stores) (a : Answer) (p' : Partitioning)
     : Type 0 where
-  pub number : a.number ≡ repartition_number p new s
-  pub changed : a.changed ≡ 0
-  pub examined : a.examined ≡ 0
-  pub refused : (a.number ≡ 0 → ⊥) → (s' ≡ s) × (p' ≡ p)
-  pub accepted : a.number ≡ 0 → (p' ≡ with_cuts p new) × Moved p (with_cuts p new) s s'
+  pub number : answer_number a ≡ repartition_number p new s
+  pub changed : changed_of a ≡ 0
+  pub examined : examined_of a ≡ 0
+  pub refused : (answer_number a ≡ 0 → ⊥) → (s' ≡ s) × (p' ≡ p)
+  pub accepted : answer_number a ≡ 0 → (p' ≡ with_cuts p new) × Moved p (with_cuts p new) s s'
 
 -- ---- what follows from these (proved in proofs/Repartitioning.antt)
 

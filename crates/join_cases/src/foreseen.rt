@@ -28,13 +28,15 @@ fn length(n: u64, w: u64) -> u64 {
 
 // Takes in the answer, and every word of the report.
 fn seen(h: u64, r: Requirements, report: &[u64; REPORT_WORDS]) -> Reported {
-    let number = digest::mix(h, r.number);
-    let outer = digest::mix(number, r.outer);
-    let inner = digest::mix(outer, r.inner);
-    let pairs = digest::mix(inner, r.pairs);
+    let number = refusal::answer_number(r);
+    let sizes = match r {
+        Ok(size) => [size.outer, size.inner, size.pairs],
+        Err(_) => [0, 0, 0],
+    };
+    let told = digest::run(digest::mix(h, number), &sizes, 0, 3);
     Reported {
-        number: r.number,
-        digest: digest::run(pairs, report, 0, REPORT_WORDS as u64),
+        number,
+        digest: digest::run(told, report, 0, REPORT_WORDS as u64),
     }
 }
 

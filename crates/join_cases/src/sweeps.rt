@@ -82,7 +82,12 @@ pub(crate) fn swept(c: Call, s: Stores) -> Left {
     Left {
         answer,
         plan: p,
-        more: seen(answer.number, k, &outer_cache, &inner_cache),
+        more: seen(
+            refusal::answer_number(answer),
+            k,
+            &outer_cache,
+            &inner_cache,
+        ),
         stores: Stores { outer, inner, rows },
     }
 }

@@ -101,11 +101,13 @@ fn order(p: Partitioning, ordered: bool, kind: u64, number: u64, before: Stores)
 fn seen(h: u64, p: Partitioning, order: Order, left: Left, before: Stores) -> u64 {
     let a = left.answer;
     let s = left.stores;
-    let number = digest::mix(h, a.number);
-    let changed = digest::mix(number, a.changed);
-    let examined = digest::mix(changed, a.examined);
-    let beside = digest::mix(examined, left.more);
-    digest::all(beside, p, order, before, s)
+    let counts = match a {
+        Ok(counted) => [counted.changed, counted.examined],
+        Err(_) => [0, 0],
+    };
+    let number = digest::mix(h, refusal::answer_number(a));
+    let counted = digest::run(number, &counts, 0, 2);
+    digest::all(digest::mix(counted, left.more), p, order, before, s)
 }
 
 fn counted(tally: Tally, number: u64) -> Tally {
@@ -136,17 +138,17 @@ fn after(
     let before = wall.stores;
     let s = left.stores;
     let tally = wall.tally;
-    let a = left.answer;
+    let number = refusal::answer_number(left.answer);
     let age = wall.age;
     Wall {
         stores: stores::either(disturbed, before, s),
         plan: plans::either(disturbed, p, plans::either(kind == 4, recut, p)),
         state,
         digest,
-        accepted: total::plus(wall.accepted, total::either(a.number == 0, 1, 0)),
-        age: total::either(disturbed, total::plus(age, 1), aged(age, kind, a.number)),
+        accepted: total::plus(wall.accepted, total::either(number == 0, 1, 0)),
+        age: total::either(disturbed, total::plus(age, 1), aged(age, kind, number)),
         ordered: (disturbed & wall.ordered) | (!disturbed & order.told),
-        tally: counted(tally, a.number),
+        tally: counted(tally, number),
     }
 }
 
@@ -178,8 +180,8 @@ fn taken(wall: Wall, state: u64, d: &[u64], pool: Pool) -> Wall {
     let before = meddling::of_step(p, d, s);
     let told = asked(wall, call, before, d);
     let left = calls::made(call, before);
-    let a = left.answer;
-    let order = order(p, wall.ordered, kind, a.number, before);
+    let number = refusal::answer_number(left.answer);
+    let order = order(p, wall.ordered, kind, number, before);
     let digest = seen(told.digest, p, order, left, before);
     after(told, state, disturbed, kind, left, order, digest)
 }
@@ -205,12 +207,11 @@ fn opened(seed: u64, plan: Partitioning, state: u64, tally: Tally) -> Wall {
     let words = drawn.stores;
     let left = calls::made(calls::opening(plan), words);
     let s = left.stores;
-    let a = left.answer;
     Wall {
         stores: s,
         plan,
         state: drawn.state,
-        digest: digest::mix(seed, a.number),
+        digest: digest::mix(seed, refusal::answer_number(left.answer)),
         accepted: 0,
         age: 0,
         ordered: true,

@@ -20,7 +20,7 @@ use Rattle.label.specs.Label.{label_end, label_length, rank, is_letter, is_label
 use Rattle.label.specs.Label.{capital, capitals, is_label_field, field_label_number, number_or_none}
 use Rattle.label.specs.Label.{letters_before, letters_of, LabelRead, LettersWritten}
 use Rattle.label.specs.Weights.{right_weights, weighted}
-use Rattle.label.specs.declared.LabelField.TheVariants.{Number, Malformed}
+use Rattle.std.specs.Prelude.{Some, None}
 use Rattle.label.proofs.Labels.{letter-is, largest, letters-are, none_left}
 use Rattle.label.proofs.Fields.{capitals-length, field-range}
 use Rattle.label.proofs.Weights.{weight-most, weighted-number, sum-most}
@@ -141,11 +141,11 @@ label-or-none bs = ⊎_elim (λ e. inl (e, is e)) (λ e. inr (e, sym (none_of bs
     is : is_label_field bs ≡ true → 1 ≤ number_or_none bs
     is e = omega (arith, field-range bs e, label_of bs e)
 
-pub read-refused : (bs : List ℕ) (n : ℕ) → n ≡ number_or_none bs → n ≡ 0 → LabelRead bs Malformed
+pub read-refused : (bs : List ℕ) (n : ℕ) → n ≡ number_or_none bs → n ≡ 0 → LabelRead bs None
 read-refused bs n e z = ⊎_elim (λ p. absurd (omega arith)) (λ p. record { number = rw p.0; label = sym p.1 })
     (label-or-none bs)
 
-pub read-accepted : (bs : List ℕ) (n : ℕ) → n ≡ number_or_none bs → (n ≡ 0 → ⊥) → LabelRead bs (Number n)
+pub read-accepted : (bs : List ℕ) (n : ℕ) → n ≡ number_or_none bs → (n ≡ 0 → ⊥) → LabelRead bs (Some n)
 read-accepted bs n e z = ⊎_elim (λ p. record { number = rw p.0; label = e }) (λ p. absurd (omega arith))
     (label-or-none bs)
 

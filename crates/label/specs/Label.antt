@@ -2,11 +2,10 @@
 -- That each label has a number of its own, and each number from 1 to the end its label, is proved in
 -- proofs/Labels.antt; what a field says, in proofs/Fields.antt.
 use Rattle.std.specs.Prelude.{Bool, not, ◌&&◌, ◌||◌, List, [], ◌∷◌, ◌++◌, map, ◌≡◌, ℕ, zero, suc, ◌+◌, ◌-◌, ◌*◌, ◌/◌, ◌%◌, length, replicate, leb, ltb}
+use Rattle.std.specs.Prelude.{Option, Some, None}
 use Rattle.lists.specs.Choice.{pick, refuse_if}
 use Rattle.lists.specs.Members.{all}
 use Rattle.label.specs.declared.Letters.{Letters}
-use Rattle.label.specs.declared.LabelField.{LabelField}
-use Rattle.label.specs.declared.LabelField.TheVariants.{Number, Malformed}
 
 -- the largest label's number, ZZZZZZZZ
 abbrev pub label_end : ℕ
@@ -72,17 +71,17 @@ unfoldable pub letters_of : ℕ → List ℕ
 letters_of n = pick (ltb n 1 || ltb label_end n) [] (letters_before label_length n [])
 
 -- the reader's answer in document 01's terms: the refusal number (15: not of the form) and the label's number
-abbrev pub field_number : LabelField → ℕ
-field_number (Number n) = 0
-field_number Malformed = 15
+abbrev pub field_number : Option ℕ → ℕ
+field_number (Some n) = 0
+field_number None = 15
 
-abbrev pub field_label : LabelField → ℕ
-field_label (Number n) = n
-field_label Malformed = 0
+abbrev pub field_label : Option ℕ → ℕ
+field_label (Some n) = n
+field_label None = 0
 
 -- a label field that was read: 15 exactly where the bytes are no label field, else its number ("A small letter in a
 -- label no longer gives 15.")
-pub record LabelRead (bs : List ℕ) (r : LabelField) : Type 0 where
+pub record LabelRead (bs : List ℕ) (r : Option ℕ) : Type 0 where
   pub number : field_number r ≡ refuse_if (not (is_label_field bs)) 15
   pub label : field_label r ≡ number_or_none bs
 

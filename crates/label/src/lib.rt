@@ -26,27 +26,14 @@ const WEIGHTS: [u64; 8] = [
     8_031_810_176,
 ];
 
-// A label field that was read: the label's number, or that the field is no label.
-#[derive(Clone, Copy)]
-pub enum LabelField {
-    Number(u64),
-    Malformed,
-}
-
-// The letters of a label: the first `count` bytes; the others are 0.
+// The letters of a label: the first `count` bytes; the others are 0. Bytes and a count, since there is no heap.
 #[derive(Clone, Copy)]
 pub struct Letters {
     pub bytes: [u8; 8],
     pub count: u64,
 }
 
-fn wide(b: u8) -> u64
-    ensures { result ≡ b }
-{
-    b as u64
-}
-
-// The rank of a letter, from 1 to 26, or 0 for a byte that is no letter.
+// The rank of a letter, from 1 to 26, or 0 for a byte that is no letter, as the definition `rank` has it.
 fn rank_of(b: u8) -> u64
     ensures { result ≡ rank b }
 {
@@ -56,7 +43,7 @@ fn rank_of(b: u8) -> u64
     if 90 < b {
         return 0;
     }
-    wide(b) - 64
+    u64::from(b) - 64
 }
 
 // The capital of a small letter; any other byte is its own.
@@ -80,7 +67,7 @@ fn weight_table() -> [u64; 8]
 }
 
 // The number of 1 to 8 letters, capital or small: each letter's rank times its weight, summed from the last letter on.
-// 0 for any other bytes.
+// 0 for any other bytes, as the definition `number_or_none` has it, of which the theorem about the weights speaks.
 pub fn label_number(letters: &[u8]) -> u64
     ensures { result ≡ number_or_none letters.now }
 {
@@ -93,28 +80,26 @@ pub fn label_number(letters: &[u8]) -> u64
     }
     let weights = weight_table();
     let mut n: u64 = 0;
-    let mut after: usize = 0;
-    while after < len {
+    for after in 0..len {
         let i = len - 1 - after;
         let letter = rank_of(capital_of(letters[i]));
         if letter == 0 {
             return 0;
         }
         n += letter * weights[after];
-        after += 1;
     }
     n
 }
 
-// The label field with these bytes: its number, or Malformed (document 01: 15).
-pub fn read_label(field: &[u8]) -> LabelField
+// The number of the label field with these bytes; None where they are no label (document 01: 15).
+pub fn read_label(field: &[u8]) -> Option<u64>
     ensures { LabelRead field.now result }
 {
     let n = label_number(field);
     if n == 0 {
-        return LabelField::Malformed;
+        return None;
     }
-    LabelField::Number(n)
+    Some(n)
 }
 
 // The letters with b in front. There are at most seven of them: the last byte falls away.
@@ -136,6 +121,7 @@ pub fn letters_of(number: u64) -> Letters
         return Letters { bytes, count };
     }
     let mut n = number;
+    // By division until nothing is left: no counter bounds it.
     while n != 0 {
         let last = (n - 1) % 26;
         let longer = before(65 + last as u8, bytes);

@@ -10,7 +10,7 @@ use Rattle.lists.specs.Choice.{first_of}
 use Rattle.lists.specs.Members.{below}
 use Rattle.plan.specs.Plan.{most_partitions, cuts_of, cover, minimum_check, plan_number, numbers}
 use Rattle.rows.specs.declared.Side.TheVariants.{Outer, Inner}
-use Rattle.layout.specs.Layout.{minutes, plan_in, words_of, side_of, told, refusal, lent_number}
+use Rattle.layout.specs.Layout.{minutes, plan_in, side_of, told, refusal, lent_number}
 use Rattle.layout.proofs.Words.{put_lasts}
 
 -- a plan's words: lanes, tuples, rows, last minutes in 64 places, of which those beyond hold 7, and that minimum; and
@@ -81,6 +81,6 @@ lengths-hold = (
 abbrev sevens : ℕ → List ℕ
 sevens n = replicate n 7
 
-told-holds : (told (sevens 3) (words_of (refusal 4)) ≡ 4 ∷ (0 ∷ (0 ∷ [])))
-    × (told (sevens 2) (words_of (refusal 4)) ≡ sevens 2) × (told (sevens 4) (words_of (refusal 4)) ≡ sevens 4)
+told-holds : (told (sevens 3) (refusal 4) ≡ 4 ∷ (0 ∷ (0 ∷ [])))
+    × (told (sevens 2) (refusal 4) ≡ sevens 2) × (told (sevens 4) (refusal 4) ≡ sevens 4)
 told-holds = (refl, refl, refl)

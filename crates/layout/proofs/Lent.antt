@@ -1,7 +1,7 @@
 -- Laws of the number for lengths: what it is, and what is known where it is 0.
 -- Assumes nothing.
 use mathlib.Core.Bool.{Bool, true, false}
-use mathlib.Core.List.{List}
+use mathlib.Core.List.{List, [], ◌∷◌}
 use mathlib.Core.Logic.{⊎_elim}
 use mathlib.Core.Path.{◌≡◌, refl, ◌∙◌}
 use Prim.Native.Nat.{ℕ}
@@ -9,6 +9,7 @@ use native.Mathlib.Omega.{arith}
 use lib.Dec.{eqb}
 use lib.ListN.{length}
 use borrow.Author.Tests.{eq-eqb, ne_eqb, eqb-true, eqb-false}
+use Rattle.lists.specs.Choice.{first_of}
 use Rattle.lists.proofs.Choice.{bool_cases, answer-here, answer-next, answer-last}
 use Rattle.plan.specs.Plan.{plan_number}
 use Rattle.layout.specs.Layout.{plan_words, plan_in, lent_number}
@@ -25,16 +26,11 @@ module _ (ws : List ℕ) where
     unfolding lent_number
     lent-right right r = rw (eq-eqb (length ws) plan_words e, r)
 
-    -- another is not: the plan's own number n, or 4
-    pub lent-plan : (right : Bool) (n : ℕ) → right ≡ false → n ≡ plan_number (plan_in ws) → (n ≡ 0 → ⊥)
+    -- another is not: the plan's own number, or 4
+    pub lent-own : (right : Bool) (n : ℕ) → right ≡ false → n ≡ first_of (plan_number (plan_in ws) ∷ (4 ∷ []))
         → n ≡ lent_number ws right
     unfolding lent_number
-    lent-plan right n r h ne = rw (eq-eqb (length ws) plan_words e, r) (answer-here _ h ne)
-
-    pub lent-four : (right : Bool) (n : ℕ) → right ≡ false → n ≡ plan_number (plan_in ws) → n ≡ 0
-        → 4 ≡ lent_number ws right
-    unfolding lent_number
-    lent-four right n r h z = rw (eq-eqb (length ws) plan_words e, r) (answer-next _ h z (answer-last refl))
+    lent-own right n r h = rw (eq-eqb (length ws) plan_words e, r) h
 
   -- 0: the plan's length is right, and the others are
   pub lent-long : (right : Bool) → lent_number ws right ≡ 0 → length ws ≡ plan_words
@@ -50,7 +46,7 @@ module _ (ws : List ℕ) where
       ⊎_elim (λ t. t)
       (λ r.
       absurd
-      (⊎_elim (λ t. omega (arith, lent-four e right n r refl (eqb-true n 0 t)))
-      (λ t. eqb-false n 0 t (lent-plan e right n r refl (eqb-false n 0 t) ∙ z))
+      (⊎_elim (λ t. omega (arith, lent-own e right 4 r (answer-next _ refl (eqb-true n 0 t) (answer-last refl))))
+      (λ t. eqb-false n 0 t (lent-own e right n r (answer-here _ refl (eqb-false n 0 t)) ∙ z))
       (bool_cases (eqb n 0))))
       (bool_cases right)

@@ -1,48 +1,18 @@
--- Laws of the layout: an answer's three or four words; last minutes as words and back; the plan that words say, and
--- after last minutes are put into them, which keeps its minimum; that nothing of a plan's words is lost.
+-- Laws of the layout: last minutes as words and back; the plan that words say, and after last minutes are put into
+-- them, which keeps its minimum; that nothing of a plan's words is lost.
 -- Assumes nothing.
 use mathlib.Core.List.{List, [], ◌∷◌, ◌++◌, append_assoc}
 use mathlib.Core.Path.{◌≡◌, refl, sym, ◌∙◌, ap}
 use Prim.Native.Nat.{ℕ, ◌+◌, ◌≤◌, ◌<◌}
 use native.Mathlib.Omega.{arith}
-use lib.Dec.{eqb}
-use lib.ListN.{length, get_or, take, drop, set, length-take, length-drop, length-append, length-map, get_or-map}
+use lib.ListN.{length, get_or, take, drop, length-take, length-drop, length-append, length-map, get_or-map}
 use lib.ListN.{take-append-drop, drop_of_length-le}
 use lib.Seq.{take_all, take_at, drop-cons, get_or-take, get_or-drop, get_or-append-add}
-use borrow.Author.Tests.{eq-eqb, ne_eqb}
-use Rattle.lists.proofs.Choice.{pick_true, pick-false}
 use Rattle.lists.proofs.Copies.{Copied}
 use Rattle.interval.specs.declared.time.Chronon.{Chronon}
 use Rattle.plan.specs.Plan.{most_partitions, numbers, with_cuts}
 use Rattle.plan.specs.declared.Partitioning.{Partitioning}
-use Rattle.layout.specs.Layout.{plan_head, minimum_place, plan_words, answer_words, requirements_words, minutes}
-use Rattle.layout.specs.Layout.{plan_in, told}
-
--- ---- an answer's words
-
--- a buffer of another length stays as it was, one of theirs holds the words
-pub told-other : (buffer ws : List ℕ) → (length buffer ≡ length ws → ⊥) → buffer ≡ told buffer ws
-told-other buffer ws ne =
-    sym (pick-false (eqb (length buffer) (length ws)) ws buffer (ne_eqb (length buffer) (length ws) ne))
-
-pub told-whole : (buffer ws : List ℕ) → length buffer ≡ length ws → ws ≡ told buffer ws
-told-whole buffer ws e =
-    sym (pick_true (eqb (length buffer) (length ws)) ws buffer (eq-eqb (length buffer) (length ws) e))
-
--- three stores, and four, are all the words
-
-pub three-told : (ws : List ℕ) (x y z : ℕ) → length ws ≡ answer_words
-    → set (set (set ws 0 x) 1 y) 2 z ≡ x ∷ (y ∷ (z ∷ []))
-three-told [] x y z e = absurd (omega arith)
-three-told (a ∷ []) x y z e = absurd (omega arith)
-three-told (a ∷ (b ∷ [])) x y z e = absurd (omega arith)
-three-told (a ∷ (b ∷ (c ∷ []))) x y z e = refl
-three-told (a ∷ (b ∷ (c ∷ (d ∷ ws)))) x y z e = absurd (omega arith)
-
-pub four-told : (ws : List ℕ) (w x y z : ℕ) → length ws ≡ requirements_words
-    → set (set (set (set ws 0 w) 1 x) 2 y) 3 z ≡ w ∷ (x ∷ (y ∷ (z ∷ [])))
-four-told [] w x y z e = absurd (omega arith)
-four-told (a ∷ ws) w x y z e = ap (λ (vs : List ℕ). w ∷ vs) (three-told ws x y z (omega arith))
+use Rattle.layout.specs.Layout.{plan_head, minimum_place, plan_words, minutes, plan_in}
 
 -- ---- last minutes as words
 

@@ -7,7 +7,9 @@ use Rattle.plan.specs.Plan.{most_partitions, plan_number}
 use Rattle.plan.specs.declared.Partitioning.{Partitioning}
 use Rattle.rows.specs.declared.Side.{Side}
 use Rattle.rows.specs.declared.Side.TheVariants.{Outer, Inner}
-use Rattle.checks.specs.declared.Answer.{Answer}
+use Rattle.refusal.specs.Refusal.{answer_number}
+use Rattle.sweep_count.specs.Required.{Requirements, sizes_of}
+use Rattle.checks.specs.Answer.{Answer, changed_of, examined_of}
 
 -- the words of a plan, 68: before its last minutes; and before its minimum, which is the last word
 abbrev pub plan_head : ℕ
@@ -42,7 +44,7 @@ plan_in ws = record {
 
 -- an answer: number, first count, second count
 abbrev pub words_of : Answer → List ℕ
-words_of a = a.number ∷ (a.changed ∷ (a.examined ∷ []))
+words_of a = (answer_number a) ∷ (changed_of a ∷ (examined_of a ∷ []))
 
 -- a side: 1 is drawings (outer), every other word spots (inner)
 abbrev pub side_of : ℕ → Side
@@ -59,9 +61,16 @@ requirements_fit buffer = eqb (length buffer) requirements_words
 abbrev pub told : List ℕ → List ℕ → List ℕ
 told buffer ws = pick (eqb (length buffer) (length ws)) ws buffer
 
--- a refusal's answer: both counts are 0
-abbrev pub refusal : ℕ → Answer
-refusal n = record { number = n; changed = 0; examined = 0 }
+-- a refusal's words: its number, and both counts are 0
+abbrev pub refusal : ℕ → List ℕ
+refusal n = n ∷ (0 ∷ (0 ∷ []))
+
+-- what a sweep requires in words: number, each side's need, pairs; and of a refusal
+abbrev pub requirements_in : Requirements → List ℕ
+requirements_in r = answer_number r ∷ ((sizes_of r).outer ∷ ((sizes_of r).inner ∷ ((sizes_of r).pairs ∷ [])))
+
+abbrev pub no_requirements : ℕ → List ℕ
+no_requirements n = n ∷ (0 ∷ (0 ∷ (0 ∷ [])))
 
 -- the number for the lengths of what a call is lent beside the stores (0: they are right). A plan of another length
 -- says nothing: 4. Where another length is wrong, the plan's own numbers, 1 to 3 and 18, come before its 4, as in

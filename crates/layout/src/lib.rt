@@ -4,17 +4,21 @@
 // A reader or writer of a plan asks for its length by a `requires`; a call tests it first.
 #![tactic(auto)]
 
-ghost use Rattle.std.specs.Prelude.{[], ◌∷◌, ◌++◌, ◌≡◌, ◌+◌, ◌≤◌, length, take, drop};
+ghost use Rattle.std.specs.Prelude.{◌++◌, ◌≡◌, ◌+◌, ◌≤◌, length, take, drop, IfOk};
+ghost use Rattle.refusal.specs.Refusal.{answer_number};
 ghost use Rattle.interval.specs.Tuple.{tuple};
 ghost use Rattle.plan.specs.Plan.{most_partitions, numbers};
 ghost use Rattle.layout.specs.Layout.{plan_head, minimum_place, plan_words, minutes, plan_in, words_of, told};
+ghost use Rattle.layout.specs.Layout.{requirements_in};
 ghost use Rattle.layout.specs.Layout.{side_of, lent_number};
 
 use checks::Answer;
 use interval::time::{Chronon, Interval};
 use interval::tuple::Tuple;
 use plan::{PLACES, Partitioning};
+use refusal::Refusal;
 use rows::Side;
+use sweep_count::SweepSize;
 
 // The words of a plan before its last minutes, before its minimum, and all.
 const PLAN_HEAD: usize = 3;
@@ -34,10 +38,8 @@ pub fn lasts_in(words: &[u64], from: usize) -> [Chronon; PLACES]
     ensures { result ≡ minutes (take most_partitions (drop from words.now)) }
 {
     let mut lasts = [Chronon(0); PLACES];
-    let mut i: usize = 0;
-    while i < PLACES {
+    for i in 0..PLACES {
         lasts[i] = Chronon(words[from + i]);
-        i += 1;
     }
     lasts
 }
@@ -79,49 +81,63 @@ pub fn tuple_of(label: u64, item: u64, first: u64, last: u64) -> Tuple
     }
 }
 
-// Writes an answer's three words, where three are lent; answers its number.
+// An answer's three words: its number and its two counts.
+fn words_of(a: Answer) -> [u64; ANSWER_WORDS]
+    ensures { result ≡ words_of a }
+{
+    match a {
+        Ok(counted) => [0, counted.changed, counted.examined],
+        Err(refusal) => [refusal.into(), 0, 0],
+    }
+}
+
+// Writes an answer's words, where as many are lent; answers its number.
 pub fn tell(a: Answer, answer: &mut [u64]) -> u64
-    ensures { (answer.new ≡ told answer.old (words_of a)) × (result ≡ a.number) }
+    ensures { (answer.new ≡ told answer.old (words_of a)) × (result ≡ answer_number a) }
 {
-    if answer.len() != ANSWER_WORDS {
-        return a.number;
+    let words = words_of(a);
+    if answer.len() == ANSWER_WORDS {
+        answer.copy_from_slice(&words);
     }
-    answer[0] = a.number;
-    answer[1] = a.changed;
-    answer[2] = a.examined;
-    a.number
+    words[0]
 }
 
-// Writes what a sweep requires, where four words are lent; answers its number.
-pub fn tell_requirements(number: u64, outer: u64, inner: u64, pairs: u64, answer: &mut [u64]) -> u64
-    ensures { (answer.new ≡ told answer.old (number ∷ (outer ∷ (inner ∷ (pairs ∷ [])))))
-        × (result ≡ number) }
+// The four words of what a sweep requires: the number, each side's need and the pairs.
+fn requirements_in(r: Result<SweepSize, Refusal>) -> [u64; REQUIREMENTS_WORDS]
+    ensures { result ≡ requirements_in r }
 {
-    if answer.len() != REQUIREMENTS_WORDS {
-        return number;
+    match r {
+        Ok(size) => [0, size.outer, size.inner, size.pairs],
+        Err(refusal) => [refusal.into(), 0, 0, 0],
     }
-    answer[0] = number;
-    answer[1] = outer;
-    answer[2] = inner;
-    answer[3] = pairs;
-    number
 }
 
-// The number for lengths, given whether those of the other buffers are right: that of the plan first.
-pub fn lent_number(plan: &[u64], right: bool) -> u64
-    ensures { result ≡ lent_number plan.now right }
+// Writes what a sweep requires, where as many words are lent; answers its number.
+pub fn tell_requirements(r: Result<SweepSize, Refusal>, answer: &mut [u64]) -> u64
+    ensures { (answer.new ≡ told answer.old (requirements_in r)) × (result ≡ answer_number r) }
+{
+    let words = requirements_in(r);
+    if answer.len() == REQUIREMENTS_WORDS {
+        answer.copy_from_slice(&words);
+    }
+    words[0]
+}
+
+// The plan that a call is lent, given whether the lengths of the other buffers are right; or the number for lengths,
+// that of the plan first.
+pub fn lent_plan(plan: &[u64], right: bool) -> Result<Partitioning, Refusal>
+    ensures number { answer_number result ≡ lent_number plan.now right }
+    ensures plan { IfOk result (λ p. p ≡ plan_in plan.now) }
 {
     if plan.len() != PLAN_WORDS {
-        return 4;
+        return Err(Refusal::Length);
     }
+    let p = plan_in(plan);
     if right {
-        return 0;
+        return Ok(p);
     }
-    let own = plan::plan_number(plan_in(plan));
-    if own != 0 {
-        return own;
-    }
-    4
+    plan::plan_number(p)?;
+    Err(Refusal::Length)
 }
 
 // Puts last minutes into the words of a plan; every other word is kept.
@@ -130,10 +146,8 @@ pub fn put_lasts(lasts: [Chronon; PLACES], plan: &mut [u64])
     ensures { plan.new
         ≡ take plan_head plan.old ++ (numbers lasts ++ drop minimum_place plan.old) }
 {
-    let mut place: usize = 0;
-    while place < PLACES {
+    for place in 0..PLACES {
         let last = lasts[place];
         plan[PLAN_HEAD + place] = last.0;
-        place += 1;
     }
 }

@@ -14,6 +14,11 @@ use lib.Dec.{eqb}
 use lib.ListN.{length, take, drop, length-drop}
 use lib.Seq.{take_all}
 use borrow.Author.Tests.{eqb-true, ne_eqb, not-true}
+use borrow.Author.Rules.{rules}
+use Rattle.std.specs.Bool.{Decides}
+use Rattle.std.specs.Str.{bytes_eq}
+use Rattle.std.proofs.lemmas.Bool.Decides.{same_from_decides, Decides-eqb}
+use Rattle.std.proofs.lemmas.Slice.Eq.{slice_eq-Decides, compares_Decides}
 use Rattle.lists.specs.Choice.{pick}
 use Rattle.lists.specs.Members.{all, any, place_of}
 use Rattle.lists.proofs.Choice.{bool_cases, and_left, and_right, or-neither-left, or-neither-right}
@@ -203,3 +208,11 @@ same-bytes-is (x ∷ xs) [] e = absurd (false≢true e)
 same-bytes-is (x ∷ xs) (y ∷ ys) e =
     ap₂ ◌∷◌ (eqb-true x y (and_left (eqb x y) (same_bytes xs ys) e))
     (same-bytes-is xs ys (and_right (eqb x y) (same_bytes xs ys) e))
+
+same-bytes-decides : (xs ys : List ℕ) → Decides (same_bytes xs ys) (xs ≡ ys)
+same-bytes-decides = compares_Decides same_bytes (search rules)
+
+-- what `==` answers of them, the second lent as the slice zs
+pub same-bytes-eq : (xs ys zs : List ℕ) (r : Bool) → zs ≡ ys → r ≡ bytes_eq xs zs → r ≡ same_bytes xs ys
+same-bytes-eq xs ys zs r a e =
+    same_from_decides r (same_bytes xs ys) (slice_eq-Decides Decides-eqb xs ys r (rw a at e)) (same-bytes-decides xs ys)

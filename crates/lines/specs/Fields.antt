@@ -1,10 +1,9 @@
 -- The fields of a line: bytes parted by commas, numbers, and words.
 -- The laws are in proofs/.
 use Rattle.std.specs.Prelude.{Bool, true, false, not, ◌&&◌, ◌||◌, List, [], ◌∷◌, ◌++◌, ◌≡◌, ℕ, zero, suc, ◌+◌, ◌-◌, ◌*◌, ◌/◌, ◌%◌, leb, eqb, length, get_or}
+use Rattle.std.specs.Prelude.{Option, Some, None}
 use Rattle.lists.specs.Choice.{pick, refuse_if}
 use Rattle.lists.specs.Members.{all}
-use Rattle.lines.specs.declared.NumberField.{NumberField}
-use Rattle.lines.specs.declared.NumberField.TheVariants.{Value, Malformed}
 
 -- the byte of a comma, and the byte that ends a line
 abbrev pub comma : ℕ
@@ -64,16 +63,16 @@ unfoldable pub value_of : List ℕ → ℕ
 value_of bs = value_from 0 bs
 
 -- the value that a number field's answer stands for, and document 01's number for it
-abbrev pub field_number : NumberField → ℕ
-field_number (Value n) = 0
-field_number Malformed = 15
+abbrev pub field_number : Option ℕ → ℕ
+field_number (Some n) = 0
+field_number None = 15
 
-abbrev pub field_value : NumberField → ℕ
-field_value (Value n) = n
-field_value Malformed = 0
+abbrev pub field_value : Option ℕ → ℕ
+field_value (Some n) = n
+field_value None = 0
 
 -- a number field that was read: 15 exactly where the bytes are no number, else its value
-pub record NumberRead (bs : List ℕ) (r : NumberField) : Type 0 where
+pub record NumberRead (bs : List ℕ) (r : Option ℕ) : Type 0 where
   pub number : field_number r ≡ refuse_if (not (is_number bs)) 15
   pub value : field_value r ≡ pick (is_number bs) (value_of bs) 0
 

@@ -5,12 +5,11 @@
 
 ghost use Rattle.std.specs.Prelude.{◌≡◌};
 ghost use Rattle.lists.specs.Members.{place_of};
-ghost use Rattle.lines.specs.Fields.{is_byte, same_bytes, NumberRead, fields_of};
+ghost use Rattle.lines.specs.Fields.{is_byte, NumberRead, fields_of};
 ghost use Rattle.lines.specs.Line.{lane_of, least_of, span_form, numbers_form, change_form, line_of};
 
 use interval::time::{Chronon, Interval};
 use interval::tuple::Tuple;
-use label::LabelField;
 
 // The most bytes of a line before its byte 10.
 pub const LINE_LENGTH: usize = 80;
@@ -22,9 +21,6 @@ pub const LINE_END: u8 = 10;
 
 // The most digits of a number.
 const MOST_DIGITS: usize = 8;
-
-// The number of a line that is not of the form.
-pub const MALFORMED: u64 = 15;
 
 // The four words of a change: which side, in or out.
 #[derive(Clone, Copy)]
@@ -45,82 +41,47 @@ pub enum Line {
     Malformed,
 }
 
-// A number field that was read: its value, or that the field is no number.
-#[derive(Clone, Copy)]
-pub enum NumberField {
-    Value(u64),
-    Malformed,
-}
-
-// The place of the first such byte; the length where there is none.
+// The place of the first such byte; the length where there is none, as the definition `place_of` has it.
 pub fn place_of(bytes: &[u8], byte: u8) -> usize
     ensures { result ≡ place_of (is_byte byte) bytes.now }
 {
-    let mut i: usize = 0;
-    while i < bytes.len() {
-        if bytes[i] == byte {
-            return i;
-        }
-        i += 1;
-    }
-    i
+    bytes.iter().position(|b| *b == byte).unwrap_or(bytes.len())
 }
 
-// Whether two runs of bytes are the same.
-fn same(a: &[u8], b: &[u8]) -> bool
-    ensures { result ≡ same_bytes a.now b.now }
-{
-    if a.len() != b.len() {
-        return false;
-    }
-    let mut i: usize = 0;
-    while i < a.len() {
-        if a[i] != b[i] {
-            return false;
-        }
-        i += 1;
-    }
-    true
-}
-
-// The number field with these bytes.
-fn read_number(field: &[u8]) -> NumberField
+// The value of the number field with these bytes; None where they are no number.
+fn read_number(field: &[u8]) -> Option<u64>
     ensures { NumberRead field.now result }
 {
     let len = field.len();
     if len < 1 {
-        return NumberField::Malformed;
+        return None;
     }
     if MOST_DIGITS < len {
-        return NumberField::Malformed;
+        return None;
     }
     if field[0] == 48 {
         if 1 < len {
-            return NumberField::Malformed;
+            return None;
         }
     }
     let mut n: u64 = 0;
-    let mut i: usize = 0;
-    while i < len {
-        let b = field[i];
+    for &b in field {
         if b < 48 {
-            return NumberField::Malformed;
+            return None;
         }
         if 57 < b {
-            return NumberField::Malformed;
+            return None;
         }
         n = 10 * n + (b - 48) as u64;
-        i += 1;
     }
-    NumberField::Value(n)
+    Some(n)
 }
 
 // The last minute of a lane line, after its first comma.
 fn read_lane(rest: &[u8]) -> Line
     ensures { result ≡ lane_of rest.now }
 {
-    let field = read_number(rest);
-    let NumberField::Value(last) = field else {
+    let Some(last) = read_number(rest) else {
         return Line::Malformed;
     };
     Line::Lane(Chronon(last))
@@ -130,8 +91,7 @@ fn read_lane(rest: &[u8]) -> Line
 fn read_least(rest: &[u8]) -> Line
     ensures { result ≡ least_of rest.now }
 {
-    let field = read_number(rest);
-    let NumberField::Value(minutes) = field else {
+    let Some(minutes) = read_number(rest) else {
         return Line::Malformed;
     };
     Line::Least(minutes)
@@ -145,12 +105,10 @@ fn read_span(word: Word, label: u64, item: u64, rest: &[u8]) -> Line
     if rest.len() <= c {
         return Line::Malformed;
     }
-    let early = read_number(&rest[0..c]);
-    let NumberField::Value(first) = early else {
+    let Some(first) = read_number(&rest[0..c]) else {
         return Line::Malformed;
     };
-    let late = read_number(&rest[c + 1..]);
-    let NumberField::Value(last) = late else {
+    let Some(last) = read_number(&rest[c + 1..]) else {
         return Line::Malformed;
     };
     Line::Change(
@@ -174,8 +132,7 @@ fn read_numbers(word: Word, label: u64, rest: &[u8]) -> Line
     if rest.len() <= c {
         return Line::Malformed;
     }
-    let number = read_number(&rest[0..c]);
-    let NumberField::Value(item) = number else {
+    let Some(item) = read_number(&rest[0..c]) else {
         return Line::Malformed;
     };
     read_span(word, label, item, &rest[c + 1..])
@@ -189,8 +146,7 @@ fn read_change(word: Word, rest: &[u8]) -> Line
     if rest.len() <= c {
         return Line::Malformed;
     }
-    let named = label::read_label(&rest[0..c]);
-    let LabelField::Number(label) = named else {
+    let Some(label) = label::read_label(&rest[0..c]) else {
         return Line::Malformed;
     };
     read_numbers(word, label, &rest[c + 1..])
@@ -209,22 +165,22 @@ pub fn read_line(line: &[u8]) -> Line
     }
     let word = &line[0..c];
     let rest = &line[c + 1..];
-    if same(word, b"lane") {
+    if word == b"lane".as_slice() {
         return read_lane(rest);
     }
-    if same(word, b"least") {
+    if word == b"least".as_slice() {
         return read_least(rest);
     }
-    if same(word, b"drawin") {
+    if word == b"drawin".as_slice() {
         return read_change(Word::DrawIn, rest);
     }
-    if same(word, b"drawout") {
+    if word == b"drawout".as_slice() {
         return read_change(Word::DrawOut, rest);
     }
-    if same(word, b"spotin") {
+    if word == b"spotin".as_slice() {
         return read_change(Word::SpotIn, rest);
     }
-    if same(word, b"spotout") {
+    if word == b"spotout".as_slice() {
         return read_change(Word::SpotOut, rest);
     }
     Line::Malformed

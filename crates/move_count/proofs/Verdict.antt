@@ -1,14 +1,15 @@
 -- Whether a partition would get more records than its capacity: the counts as a list, and the parts of the two arrays
 -- that `overfull` lends.
 -- Assumes nothing.
-use mathlib.Core.Bool.{true}
-use mathlib.Core.List.{List, ◌++◌, map}
-use mathlib.Core.Path.{◌≡◌, sym, ◌∙◌, ap, subst}
+use mathlib.Core.Bool.{Bool, true, ◌||◌}
+use mathlib.Core.List.{List, [], ◌∷◌, ◌++◌, map}
+use mathlib.Core.Path.{◌≡◌, refl, sym, ◌∙◌, ap, subst}
 use Prim.Native.Nat.{ℕ, zero, suc, ◌+◌, ◌≤◌, ◌<◌}
 use native.Mathlib.Omega.{arith}
 use lib.Dec.{ltb}
 use lib.ListN.{length, get_or, take, drop, length-take, length-map}
 use lib.Seq.{get_or-take, ext_get_or, length-take-le, take_at}
+use Rattle.std.specs.List.{list_any}
 use Rattle.lists.specs.Members.{any, up_from, below}
 use Rattle.lists.specs.Words.{zeros}
 use Rattle.lists.proofs.Members.{any-map}
@@ -19,6 +20,11 @@ use Rattle.plan.specs.declared.Partitioning.{Partitioning}
 use Rattle.plan.proofs.Homes.{legal-plan, length-cuts}
 use Rattle.moves.specs.Moves.{stored_records, Counts}
 use Rattle.move_count.specs.Crowding.{held_at, overfull, Homed, Countable, Tallied}
+
+-- std's test of some member is that of the definitions
+list-any-is : (p : ℕ → Bool) (xs : List ℕ) → list_any p xs ≡ any p xs
+list-any-is p [] = refl
+list-any-is p (x ∷ xs) = ap (λ (b : Bool). p x || b) (list-any-is p xs)
 
 -- ---- the counts as a list
 
@@ -80,10 +86,11 @@ module _ (q : Partitioning) (cuts : List ℕ) (legal : plan_number q ≡ 0) (pla
 
       -- whether one of them passes the capacity
       pub told-overfull : (capacity : ℕ)
-          → any (λ c. ltb capacity c) (take q.count (now ++ drop q.count counts)) ≡ overfull w room q capacity ws
+          → list_any (λ c. ltb capacity c) (take q.count (now ++ drop q.count counts)) ≡ overfull w room q capacity ws
       unfolding overfull
       told-overfull capacity =
-          ap (any (λ c. ltb capacity c)) (told_back ∙ numbers-are held q.count now (t.long ∙ lent-cuts) each)
+          list-any-is (λ c. ltb capacity c) (take q.count (now ++ drop q.count counts))
+          ∙ ap (any (λ c. ltb capacity c)) (told_back ∙ numbers-are held q.count now (t.long ∙ lent-cuts) each)
           ∙ any-map (λ c. ltb capacity c) held (below q.count)
         where
           held : ℕ → ℕ

@@ -4,7 +4,7 @@
 #![tactic(auto)]
 
 ghost use Rattle.std.specs.Prelude.{true, ◌≡◌, ◌≤◌, ◌<◌, ltb, length, take};
-ghost use Rattle.lists.specs.Members.{any};
+ghost use Rattle.std.specs.List.{list_any};
 ghost use Rattle.plan.specs.Plan.{plan_number, cover, cuts_of, home_of};
 ghost use Rattle.moves.specs.Moves.{Counts, stored_records};
 ghost use Rattle.move_count.specs.Crowding.{Countable, Tallied, PartCountable, PartTallied, Homed, overfull};
@@ -19,11 +19,9 @@ fn cuts_of(q: Partitioning) -> [u64; PLACES]
 {
     let lasts = q.lasts;
     let mut cuts = [0u64; PLACES];
-    let mut i: u64 = 0;
-    while i < q.count {
-        let last = lasts[i as usize];
-        cuts[i as usize] = last.0;
-        i += 1;
+    for i in 0..q.count as usize {
+        let last = lasts[i];
+        cuts[i] = last.0;
     }
     cuts
 }
@@ -36,6 +34,7 @@ fn home_in(cuts: &[u64], m: Chronon) -> PartitionIndex
 {
     let mut low: usize = 0;
     let mut high = cuts.len() - 1;
+    // Bisecting: no counter bounds it.
     while low < high {
         let middle = low + (high - low) / 2;
         if cuts[middle] < m.0 {
@@ -54,13 +53,11 @@ fn count_part(part: &[u64], width: usize, cuts: &[u64], counts: &mut [u64])
         counts.new }
 {
     let held = part::count(part) as usize;
-    let mut k: usize = 0;
-    while k < held {
+    for k in 0..held {
         let last = part[width * (k + 1)];
         let i = home_in(cuts, Chronon(last));
         let home = i.0 as usize;
         counts[home] += 1;
-        k += 1;
     }
 }
 
@@ -69,30 +66,21 @@ fn count_store(store: &[u64], width: usize, room: usize, cuts: &[u64], counts: &
     requires { Countable width room store.now cuts.now counts.old }
     ensures { Tallied width room store.now cuts.now counts.new }
 {
-    let mut j: usize = 0;
-    while j < cuts.len() {
+    for j in 0..cuts.len() {
         count_part(
             store::partition(store, room, PartitionIndex(j as u64)),
             width,
             cuts,
             counts,
         );
-        j += 1;
     }
 }
 
 // Whether some number passes the capacity.
 fn some_above(counts: &[u64], capacity: u64) -> bool
-    ensures { result ≡ any (λ c. ltb capacity c) counts.now }
+    ensures { result ≡ list_any (λ c. ltb capacity c) counts.now }
 {
-    let mut i: usize = 0;
-    while i < counts.len() {
-        if capacity < counts[i] {
-            return true;
-        }
-        i += 1;
-    }
-    false
+    counts.iter().any(|count| capacity < *count)
 }
 
 // Whether a partition of q would get more of a store's records than its capacity.
@@ -105,6 +93,7 @@ pub fn overfull(store: &[u64], width: usize, room: usize, q: Partitioning, capac
 {
     let n = q.count as usize;
     let cuts = cuts_of(q);
+    // 64 places, of which n are used, since there is no heap.
     let mut counts = [0u64; PLACES];
     count_store(store, width, room, &cuts[..n], &mut counts[..n]);
     some_above(&counts[..n], capacity)

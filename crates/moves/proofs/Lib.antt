@@ -1,8 +1,7 @@
--- Records equal in all words; runs and their records; words moved down and up; a partition laid down; the loops of
--- `compact` and `split`; closed cases.
+-- Records equal in all words; runs and their records; a partition laid down; the loops of `compact` and `split`; closed
+-- cases.
 pub mod Words
 pub mod Runs
-pub mod Moving
 pub mod Placing
 pub mod Compacting
 pub mod Splitting

@@ -98,5 +98,7 @@ module _ {A : Type 0} (kind : Kind A) (part : List ℕ) {p : A → Bool} {k : �
       → Passed p (kind.held part) (k + 1)
   place-more h e s = (place-turn h s).more e
 
-  pub place_none : counted part ≤ k → Passed p (kind.held part) k → k ≡ place_of p (kind.held part)
-  place_none h s = passed-all p (kind.held part) k (omega (arith, length-values kind part)) s
+  pub place_none : counted part ≤ k → Passed p (kind.held part) k → counted part ≡ place_of p (kind.held part)
+  place_none h s =
+      let long = length-values kind part in
+      omega (arith, long, s.within, passed-all p (kind.held part) k (omega (arith, long)) s)

@@ -9,7 +9,7 @@ use mathlib.Core.Bool.{Bool, true}
 use mathlib.Core.List.{List, [], ◌∷◌, ◌++◌, map, map-append}
 use mathlib.Core.Path.{◌≡◌, refl, sym, ap, ◌∙◌}
 use Prim.Native.Nat.{ℕ, zero, suc, ◌+◌, ◌-◌, ◌*◌, ◌≤◌, ◌<◌}
-use native.Mathlib.Nat.{mul_comm, mul-zero}
+use native.Mathlib.Nat.{mul_comm, mul-zero, mul-le-mul, le_refl}
 use native.Mathlib.Numerals.{one-add}
 use native.Mathlib.Omega.{arith}
 use lib.ListN.{length, get_or, take, drop, set, replicate, length-set, length-map, length-replicate, take-append-drop}
@@ -34,6 +34,7 @@ use Rattle.interval.specs.declared.tuple.Tuple.{Tuple}
 use Rattle.interval.specs.declared.tuple.Row.{Row}
 use Rattle.part.specs.Part.{room_of, counted, records_in, tuples_in, rows_in, tuple_at, row_at, sound_part}
 use Rattle.part.specs.Part.{appended, removed}
+use Rattle.part.specs.Held.{tuples_are, tuple_is, rows_are, row_is}
 
 -- ---- runs of stores, and the room of records
 
@@ -58,6 +59,10 @@ room_within w k n h = omega (arith, start-within k n w h, mul_comm w k, mul_comm
 
 pub room-last : (w n : ℕ) → 0 < n → room_of w (n - 1) + w ≡ room_of w n
 room-last w n h = sym (room_next w (n - 1)) ∙ ap (room_of w) (omega arith)
+
+-- a count is below the room of its records, where a record has words
+pub room-above : (w n : ℕ) → 1 ≤ w → n < room_of w n
+room-above w n h = omega (arith, mul-le-mul h (le_refl n))
 
 -- a run of k stores, as a part put back
 pub stores : (i k : ℕ) (xs vs : List ℕ) → length vs ≡ k → i + k ≤ length xs → sets xs i vs ≡ put_mid i k xs vs
@@ -271,21 +276,13 @@ module _ {A : Type 0} (kind : Kind A) where
           )
 
 -- tuples
-pub tuples-are : (part : List ℕ) → tuples_in part ≡ map tuple_of (records_in tuple_width part)
-unfolding tuples_in
-tuples-are part = refl
-
-pub tuple_is : (part : List ℕ) (k : ℕ) → tuple_at part k ≡ tuple_of (record_at tuple_width k (drop 1 part))
-unfolding tuple_at
-tuple_is part k = refl
-
 abbrev pub tuples : Kind Tuple
 tuples = record {
   width = tuple_width;
   value = tuple_of;
   held = tuples_in;
   at = tuple_at;
-  held-is = tuples-are;
+  held-is = tuples_are;
   at-is = tuple_is;
 }
 
@@ -305,14 +302,6 @@ pub tuples-removed : Removes tuples same_tuple
 tuples-removed = values-removed tuples same_tuple
 
 -- rows
-pub rows_are : (part : List ℕ) → rows_in part ≡ map row_of (records_in row_width part)
-unfolding rows_in
-rows_are part = refl
-
-pub row_is : (part : List ℕ) (k : ℕ) → row_at part k ≡ row_of (record_at row_width k (drop 1 part))
-unfolding row_at
-row_is part k = refl
-
 abbrev pub rows : Kind Row
 rows = record {
   width = row_width;

@@ -1,23 +1,22 @@
--- The loops of `store::plan`: `covers` goes up the cuts in use, `home` goes up them to a chronon's partition.
--- In order: the cuts in use; what such a loop has still to see; `Rising`, the invariant of `covers`, with its laws;
--- `Sought`, that of `home`, with its laws.
+-- The loop of `plan::covers`, which goes up the cuts in use.
+-- In order: the cuts in use; what the loop has still to see; `Rising`, its invariant, with its laws.
 -- Assumes nothing.
 use mathlib.Core.Bool.{false}
-use mathlib.Core.List.{List, [], ◌∷◌, ◌++◌}
+use mathlib.Core.List.{List, ◌∷◌}
 use mathlib.Core.Logic.{⊎_elim}
 use mathlib.Core.Path.{◌≡◌, refl, sym, ◌∙◌, ap}
-use Prim.Native.Nat.{ℕ, zero, suc, ◌+◌, ◌-◌, ◌≤◌, ◌<◌, min}
-use native.Mathlib.Nat.{suc-add}
+use Prim.Native.Nat.{ℕ, suc, ◌+◌, ◌-◌, ◌≤◌, ◌<◌, min}
 use native.Mathlib.Numerals.{add-one}
 use native.Mathlib.Omega.{arith}
-use lib.ListN.{length, get_or, take, drop, set, length-take, length-map, drop_of_length-le}
+use lib.ListN.{length, get_or, take, drop, length-take, length-map, drop_of_length-le}
 use lib.Seq.{drop-cons, take_all}
 use lib.Dec.{eqb}
+use Rattle.std.proofs.lemmas.List.{take-map}
 use borrow.Author.Tests.{lt-ltb, le-ltb}
 use Rattle.interval.specs.Time.{calendar_end}
 use Rattle.interval.specs.declared.time.Chronon.{Chronon}
-use Rattle.plan.specs.Plan.{most_partitions, numbers, cover, home_of}
-use Rattle.plan.proofs.Homes.{le-or-lt, read_at, number_at, home_here, home-past}
+use Rattle.plan.specs.Plan.{most_partitions, numbers, cover}
+use Rattle.plan.proofs.Homes.{le-or-lt, read_at, number_at}
 
 -- ---- the cuts in use: of 64 places, the first n
 
@@ -43,6 +42,13 @@ in-use-is count used lasts e is = ⊎_elim few many (le-or-lt count most_partiti
     many : most_partitions < count → in_use used lasts ≡ in_use count lasts
     many g = whole used (omega arith) ∙ sym (whole count (omega arith))
 
+-- the same, of the places in use
+pub in-use-cuts : (count used : ℕ) (lasts : List Chronon) → length lasts ≡ most_partitions
+    → used ≡ min count most_partitions
+    → numbers (take used lasts) ≡ in_use count lasts
+in-use-cuts count used lasts e is =
+    sym (take-map (λ (m : Chronon). m.0) used lasts) ∙ in-use-is count used lasts e is
+
 -- ---- what a loop that goes up a list of cuts has still to see
 
 two-left : (cs : List ℕ) (i : ℕ) → i + 1 < length cs
@@ -64,18 +70,6 @@ cover-stop cs i l g = rw (two-left cs i l, le-ltb (get_or cs i 0) (get_or cs (i 
 cover-end : (cs : List ℕ) (i : ℕ) → i + 1 ≡ length cs → cover (drop i cs) ≡ eqb (get_or cs i 0) calendar_end
 unfolding cover
 cover-end cs i e = rw (drop-cons cs i 0 (omega arith), drop_of_length-le cs {i = suc i} (omega arith))
-
--- the partition among them: the chronon is past the next cut, it is not, and none is left
-home-next : (cs : List ℕ) (m i : ℕ) → i < length cs → get_or cs i 0 < m
-    → home_of (drop i cs) m ≡ suc (home_of (drop (i + 1) cs) m)
-home-next cs m i l g = rw (add-one, drop-cons cs i 0 l) (home-past (get_or cs i 0) (drop (suc i) cs) m g)
-
-home-stop : (cs : List ℕ) (m i : ℕ) → i < length cs → m ≤ get_or cs i 0 → home_of (drop i cs) m ≡ 0
-home-stop cs m i l g = rw (drop-cons cs i 0 l) (home_here (get_or cs i 0) (drop (suc i) cs) m g)
-
-home-end : (cs : List ℕ) (m i : ℕ) → length cs ≤ i → home_of (drop i cs) m ≡ 0
-unfolding home_of
-home-end cs m i l = rw (drop_of_length-le cs l)
 
 -- ---- `covers`: the first i + 1 cuts rise, and what is left is whether those from i on cover
 
@@ -119,95 +113,3 @@ module _ (lasts : List Chronon) (used i : ℕ) (r : Rising lasts used i) where
   rising-end l =
       rw (← number_at used lasts i r.within)
       (sym (r.left ∙ cover-end (in_use used lasts) i (omega (arith, cuts-long))))
-
--- ---- `home`: the first i partitions end before m, and what is left is how many of those from i on do
-
-pub record Sought (lasts : List Chronon) (m used i : ℕ) : Type 0 where
-  pub long : length lasts ≡ most_partitions
-  pub most : used ≤ most_partitions
-  pub within : i ≤ used
-  pub left : home_of (in_use used lasts) m ≡ i + home_of (drop i (in_use used lasts)) m
-
--- no partition is passed
-pub sought-start : (lasts : List Chronon) (m used : ℕ) → length lasts ≡ most_partitions → used ≤ most_partitions
-    → Sought lasts m used 0
-sought-start lasts m used e l = record { long = e; most = l; within = omega arith; left = omega arith }
-
-module _ (lasts : List Chronon) (m used i : ℕ) (s : Sought lasts m used i) where
-  ends-long : length (in_use used lasts) ≡ used
-  ends-long = length-in-use used lasts s.long s.most
-
-  -- the chronon is past the next cut
-  pub sought-step : i < used → read_at lasts i < m → Sought lasts m used (i + 1)
-  sought-step l g =
-      let past : get_or (in_use used lasts) i 0 < m = rw (number_at used lasts i l) g in
-      let next = home-next (in_use used lasts) m i (omega (arith, ends-long)) past in
-      record { long = s.long; most = s.most; within = omega arith; left = omega arith }
-
-  -- it is not
-  pub sought-stop : i < used → m ≤ read_at lasts i → i ≡ home_of (in_use used lasts) m
-  sought-stop l g =
-      let here : m ≤ get_or (in_use used lasts) i 0 = rw (number_at used lasts i l) g in
-      omega (arith, home-stop (in_use used lasts) m i (omega (arith, ends-long)) here)
-
-  -- no cut is left
-  pub sought-end : used ≤ i → i ≡ home_of (in_use used lasts) m
-  sought-end l = omega (arith, home-end (in_use used lasts) m i (omega (arith, ends-long)))
-
--- ---- `with_cuts`: new last chronons put into the first places, one after the other
-
-pub record Spliced (new old : List Chronon) (used i : ℕ) (lasts : List Chronon) : Type 0 where
-  pub long : length new ≡ most_partitions
-  pub long-old : length old ≡ most_partitions
-  pub few : used ≤ most_partitions
-  pub upto : i ≤ used
-  pub mixed : lasts ≡ take i new ++ drop i old
-
-pub spliced-start : (new old : List Chronon) (used : ℕ) → length new ≡ most_partitions → length old ≡ most_partitions
-    → used ≤ most_partitions
-    → Spliced new old used 0 old
-spliced-start new old used a b l =
-    record { long = a; long-old = b; few = l; upto = omega arith; mixed = refl }
-
--- one place more
-splice : {A : Type 0} (new old : List A) (i : ℕ) (d : A) → i < length new → i < length old
-    → set (take i new ++ drop i old) i (get_or new i d) ≡ take (i + 1) new ++ drop (i + 1) old
-splice [] old i d l m = absurd (omega arith)
-splice (x ∷ new) [] i d l m = absurd (omega arith)
-splice (x ∷ new) (y ∷ old) zero d l m = refl
-splice (x ∷ new) (y ∷ old) (suc i) d l m =
-    simp suc-add (ap (λ r. x ∷ r) (splice new old i d (omega arith) (omega arith)))
-
-pub spliced-step : (new old : List Chronon) (used i : ℕ) (lasts : List Chronon) → i < used
-    → Spliced new old used i lasts
-    → Spliced new old used (i + 1) (set lasts i (get_or new i (record { 0 = 0 })))
-spliced-step new old used i lasts l s = record {
-  long = s.long;
-  long-old = s.long-old;
-  few = s.few;
-  upto = omega arith;
-  mixed =
-      ap (λ (r : List Chronon). set r i (get_or new i (record { 0 = 0 }))) s.mixed
-      ∙ splice new old i (record { 0 = 0 }) (omega (arith, s.long, s.few)) (omega (arith, s.long-old, s.few));
-}
-
--- past 64 all places are new
-pub spliced-end : (new old : List Chronon) (used count i : ℕ) (lasts : List Chronon)
-    → used ≡ min count most_partitions → used ≤ i
-    → Spliced new old used i lasts → lasts ≡ take count new ++ drop count old
-spliced-end new old used count i lasts is g s =
-    let e : i ≡ used = omega (arith, s.upto) in
-    s.mixed ∙ ap (λ (k : ℕ). take k new ++ drop k old) e ∙ ⊎_elim few many (le-or-lt count most_partitions)
-  where
-    few : count ≤ most_partitions → take used new ++ drop used old ≡ take count new ++ drop count old
-    few l = let same : used ≡ count = omega arith in rw same
-
-    many : most_partitions < count → take used new ++ drop used old ≡ take count new ++ drop count old
-    many l =
-        let same : used ≡ most_partitions = omega arith in
-        rw (
-          take_all used new (omega (arith, s.long)),
-          take_all count new (omega (arith, s.long)),
-          drop_of_length-le old {i = used} (omega (arith, s.long-old)),
-          drop_of_length-le old {i = count} (omega (arith, s.long-old)),
-        )

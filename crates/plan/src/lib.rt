@@ -3,9 +3,11 @@
 #![tactic(auto)]
 
 ghost use Rattle.std.specs.Prelude.{◌≡◌, take};
+ghost use Rattle.refusal.specs.Refusal.{answer_number};
 ghost use Rattle.plan.specs.Plan.{numbers, cover, minimum_check, plan_number, home, with_cuts};
 
 use interval::time::{CALENDAR_END, Chronon};
+use refusal::Refusal;
 
 // The most lanes of a legal plan.
 pub const MOST_PARTITIONS: u64 = 64;
@@ -28,7 +30,7 @@ pub const PLACES: usize = MOST_PARTITIONS as usize;
 pub struct PartitionIndex(pub u64);
 
 // A plan of document 01: the lane count, the last minute of each lane, the tuple capacity and the row capacity of a
-// lane, and the fewest minutes that a row may last.
+// lane, and the fewest minutes that a row may last. Places and a count, since document 01's plan is 64 places by value.
 #[derive(Clone, Copy)]
 pub struct Partitioning {
     pub count: u64,
@@ -45,104 +47,76 @@ pub fn covers(count: u64, lasts: [Chronon; PLACES]) -> bool
     if count < 1 {
         return false;
     }
-    let mut used = MOST_PARTITIONS;
-    if count < MOST_PARTITIONS {
-        used = count;
-    }
-    let mut i: u64 = 0;
-    while i < used - 1 {
-        let last = lasts[i as usize];
-        let next = lasts[i as usize + 1];
+    let used = MOST_PARTITIONS.min(count) as usize;
+    for i in 0..used - 1 {
+        let last = lasts[i];
+        let next = lasts[i + 1];
         if next.0 <= last.0 {
             return false;
         }
-        i += 1;
     }
-    let end = lasts[i as usize];
+    let end = lasts[used - 1];
     end.0 == CALENDAR_END
 }
 
 // Check 18 of a minimum, a plan's or a line's.
-pub fn minimum_check(minimum: u64) -> u64
-    ensures { result ≡ minimum_check minimum }
+pub fn minimum_check(minimum: u64) -> Result<(), Refusal>
+    ensures { answer_number result ≡ minimum_check minimum }
 {
     if minimum < 1 {
-        return 18;
+        return Err(Refusal::Minimum);
     }
     if MOST_MINIMUM < minimum {
-        return 18;
+        return Err(Refusal::Minimum);
     }
-    0
+    Ok(())
 }
 
-// Checks 1 to 3 and 18 of a plan, in that order: the number of the first that applies, 0 if none does.
-pub fn plan_number(p: Partitioning) -> u64
-    ensures { result ≡ plan_number p }
+// Checks 1 to 3 and 18 of a plan, in that order: the first that applies refuses it.
+pub fn plan_number(p: Partitioning) -> Result<(), Refusal>
+    ensures { answer_number result ≡ plan_number p }
 {
     if p.count < 1 {
-        return 1;
+        return Err(Refusal::PartitionCount);
     }
     if MOST_PARTITIONS < p.count {
-        return 1;
+        return Err(Refusal::PartitionCount);
     }
     let lasts = p.lasts;
     if !covers(p.count, lasts) {
-        return 2;
+        return Err(Refusal::Cuts);
     }
     if p.tuples < 1 {
-        return 3;
+        return Err(Refusal::Capacity);
     }
     if MOST_TUPLES < p.tuples {
-        return 3;
+        return Err(Refusal::Capacity);
     }
     if p.rows < 1 {
-        return 3;
+        return Err(Refusal::Capacity);
     }
     if MOST_ROWS < p.rows {
-        return 3;
+        return Err(Refusal::Capacity);
     }
     minimum_check(p.minimum)
 }
 
-// The partition that contains a chronon; the number of partitions where none does.
+// The partition that contains a chronon; the number of partitions where none does, as the definition `home` has it.
 pub fn home(p: Partitioning, m: Chronon) -> PartitionIndex
     ensures { result.0 ≡ home p m.0 }
 {
-    let lasts = p.lasts;
-    let mut used = MOST_PARTITIONS;
-    if p.count < MOST_PARTITIONS {
-        used = p.count;
-    }
-    let mut i: u64 = 0;
-    while i < used {
-        let last = lasts[i as usize];
-        if m.0 <= last.0 {
-            return PartitionIndex(i);
-        }
-        i += 1;
-    }
-    PartitionIndex(i)
+    let used = MOST_PARTITIONS.min(p.count) as usize;
+    let found = p.lasts[..used].iter().position(|last| m.0 <= last.0);
+    PartitionIndex(found.unwrap_or(used) as u64)
 }
 
 // The plan with new last chronons in its first `count` places, and all else as it was.
+#[tactic(auto, unfolding(crate::specs::Plan::with_cuts))]
 pub fn with_cuts(p: Partitioning, new: [Chronon; PLACES]) -> Partitioning
     ensures { result ≡ with_cuts p new }
 {
     let mut lasts = p.lasts;
-    let mut places = p.count;
-    if MOST_PARTITIONS < places {
-        places = MOST_PARTITIONS;
-    }
-    let mut i: u64 = 0;
-    while i < places {
-        lasts[i as usize] = new[i as usize];
-        i += 1;
-    }
-    Partitioning {
-        count: p.count,
-        lasts,
-        tuples: p.tuples,
-        rows: p.rows,
-        minimum: p.minimum,
-    }
+    let places = MOST_PARTITIONS.min(p.count) as usize;
+    lasts[..places].copy_from_slice(&new[..places]);
+    Partitioning { lasts, ..p }
 }

@@ -15,6 +15,7 @@ use Rattle.interval.specs.declared.time.Chronon.{Chronon}
 use Rattle.interval.specs.declared.tuple.Tuple.{Tuple}
 use Rattle.plan.specs.declared.Partitioning.{Partitioning}
 use Rattle.rows.specs.declared.Side.{Side}
+use Rattle.refusal.specs.Refusal.{answer_number}
 use Rattle.checks.specs.Stores.{Stores}
 use Rattle.join.specs.declared.Kind.{Kind}
 use Rattle.join.specs.declared.Kind.TheVariants.{Insert, Delete}
@@ -29,8 +30,8 @@ use Rattle.session_plan.specs.declared.Session.{Session}
 use Rattle.session_plan.proofs.Lanes.{lane-passed, least-passed}
 use Rattle.session_plan.proofs.Plans.{Good, good-fresh, good-least}
 use Rattle.session.specs.Session.{EightPartitions, wall_of, lane_number, kind_of, side_of, number_of}
-use Rattle.session.specs.Session.{change_line_number, WallChanged, LaneTaken, step_number, SteppedBy}
-use Rattle.session.specs.declared.Stepped.{Stepped}
+use Rattle.session.specs.Session.{change_line_number, WallChanged, LaneTaken, step_number}
+use Rattle.session.specs.Session.{Stepped, stepped_to, SteppedBy}
 use Rattle.session.proofs.Steps.{after-accepted}
 use Rattle.session.proofs.Lengths.{step-long}
 use Rattle.session.proofs.Numbers.{lane-number-is, eight-partitions-as}
@@ -97,7 +98,7 @@ module _ (st : State) (S S' : Stores) (a : Agrees st S) (w : Word) (t : Tuple)
   complete : st.session.complete ≡ true
   complete = change-complete st.session w t S z
 
-  done : Done (machine_of st) (plan_of st.session) (wall_of st.session S) (call_of w t) c.answer.number
+  done : Done (machine_of st) (plan_of st.session) (wall_of st.session S) (call_of w t) (answer_number c.answer)
       (plan_of st.session) (wall_of st.session S')
   done = change-done st.session w t S S' (machine_of st) (a.late complete) c
 
@@ -106,7 +107,7 @@ module _ (st : State) (S S' : Stores) (a : Agrees st S) (w : Word) (t : Tuple)
       ≡ record { session = st.session; outer = done.after.outer; inner = done.after.inner }
   state-is =
       ap (holding st)
-      (sym (told-accepted (call_of w t) c.answer.number (machine_of st) c.number) ∙ done.machine)
+      (sym (told-accepted (call_of w t) (answer_number c.answer) (machine_of st) c.number) ∙ done.machine)
 
   change-agrees : EightPartitions S' → Agrees (accepted st (Change w t)) S'
   change-agrees y =
@@ -155,12 +156,12 @@ least-agrees st S S' a minimum z same =
 
 -- the state after it, and that the wall agrees with that
 pub record Leaves (st : State) (line : Line) (S' : Stores) (r : Stepped) : Type 0 where
-  pub session : r.session ≡ (after st line).session
+  pub session : stepped_to st.session r ≡ (after st line).session
   pub agrees : Agrees (after st line) S'
 
 module _ (st : State) (S S' : Stores) (a : Agrees st S) where
-  accepted-agrees : (line : Line) (r : Stepped) → SteppedBy st.session line S S' r → r.number ≡ 0
-      → EightPartitions S' → (r.session ≡ (accepted st line).session) × Agrees (accepted st line) S'
+  accepted-agrees : (line : Line) (r : Stepped) → SteppedBy st.session line S S' r → answer_number r ≡ 0
+      → EightPartitions S' → (stepped_to st.session r ≡ (accepted st line).session) × Agrees (accepted st line) S'
   accepted-agrees (Lane m) r b z y =
       let n = sym b.number ∙ z in
       (b.session ∙ after-accepted st.session (Lane m) S n, lane-agrees st S S' a m n (b.accepted z) y)
@@ -177,11 +178,11 @@ module _ (st : State) (S S' : Stores) (a : Agrees st S) where
   accepted-agrees Malformed r b z y = absurd (b.accepted z)
 
   line-leaves : (line : Line) (r : Stepped) → SteppedBy st.session line S S' r → Leaves st line S' r
-  line-leaves line r b = ⊎_elim zero more (bool_cases (eqb r.number 0))
+  line-leaves line r b = ⊎_elim zero more (bool_cases (eqb (answer_number r) 0))
     where
-      zero : eqb r.number 0 ≡ true → Leaves st line S' r
+      zero : eqb (answer_number r) 0 ≡ true → Leaves st line S' r
       zero e =
-          let z = eqb-true r.number 0 e in
+          let z = eqb-true (answer_number r) 0 e in
           let y = eight-partitions-as S S' (step-long st.session line S S' r a.good b) a.long in
           let h = accepted-agrees line r b z y in
           let is = after-taken st line (sym (number_is st line S a) ∙ sym b.number ∙ z) in
@@ -190,9 +191,9 @@ module _ (st : State) (S S' : Stores) (a : Agrees st S) where
             agrees = subst (λ (u : State). Agrees u S') (sym is) h.1;
           }
 
-      more : eqb r.number 0 ≡ false → Leaves st line S' r
+      more : eqb (answer_number r) 0 ≡ false → Leaves st line S' r
       more e =
-          let ne = eqb-false r.number 0 e in
+          let ne = eqb-false (answer_number r) 0 e in
           let is = after_same st line (λ z. ne (b.number ∙ number_is st line S a ∙ z)) in
           let h = b.refused ne in
           record {
@@ -213,7 +214,7 @@ steps-agree st e a none = record { numbers = refl; session = e; agrees = a }
 steps-agree st e a (then {s = s} {S = S} {S' = S'} {line = line} {lines = lines} {r = r} b x) =
     let b' = subst (λ (v : Session). SteppedBy v line S S' r) e b in
     let h = line-leaves st S S' a line r b' in
-    let g = steps-agree (after st line) h.session h.agrees x in
+    let g = steps-agree (after st line) (ap (λ (v : Session). stepped_to v r) e ∙ h.session) h.agrees x in
     record {
       numbers = ap₂ (λ (n : ℕ) (ns : List ℕ). n ∷ ns) (b'.number ∙ number_is st line S a) g.numbers;
       session = g.session;

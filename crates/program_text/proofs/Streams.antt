@@ -11,8 +11,11 @@ use lib.Dec.{ltb}
 use lib.ListN.{length, take, drop, length-take, length-drop}
 use lib.Seq.{take-append_seam, take-add}
 use borrow.Author.Tests.{le-ltb, lt-ltb}
+use Rattle.std.specs.Prelude.{Result}
 use Rattle.lists.specs.Choice.{pick, refuse_if, first_of}
 use Rattle.rows.specs.Join.{join_of}
+use Rattle.refusal.specs.Refusal.{answer_number}
+use Rattle.refusal.specs.declared.Refusal.{Refusal}
 use Rattle.checks.specs.Stores.{Stores}
 use Rattle.history.proofs.Kept.{Kept}
 use Rattle.lines.specs.Line.{line_of, in_capitals}
@@ -21,16 +24,16 @@ use Rattle.lines.proofs.Printed.{capitals-read}
 use Rattle.refusal_text.specs.Refusals.{refusal_room, last_line, line_count, refusals, unfinished_text}
 use Rattle.refusal_text.proofs.Refusals.{unfinished-length, count-append, refusals-append}
 use Rattle.report.specs.Text.{count_line}
-use Rattle.report.specs.Report.{text_room, report_number}
+use Rattle.report.specs.Report.{text_room, report_number, bytes_of}
 use Rattle.session_plan.specs.Lanes.{wall_rows_most, fresh, plan_of, used_rows}
 use Rattle.session_plan.specs.declared.Session.{Session}
 use Rattle.session.specs.Session.{EightPartitions, wall_of}
-use Rattle.text_end.specs.declared.Finished.{Finished}
+use Rattle.text_end.specs.Ending.{Finished}
 use Rattle.transcript.specs.Rows.{printed_rows}
 use Rattle.transcript.proofs.Reported.{report-accepted}
 use Rattle.transcript.proofs.Sessions.{rows-printed}
 use Rattle.stream.specs.Input.{finished_lines, unfinished, values_of, values_after, rest_after}
-use Rattle.stream.specs.Taking.{Steps, none, then, kept_most, kept_bytes, kept_after, PartTaken, TakenBy}
+use Rattle.stream.specs.Taking.{Steps, none, then, kept_most, kept_bytes, kept_after, PartTaken, taken_of, TakenBy}
 use Rattle.stream.specs.Finishing.{rest_text, finish_room, finish_number, ReportAfter, NoReport, FinishedBy}
 use Rattle.stream.specs.declared.Reading.{Reading}
 use Rattle.stream.specs.declared.Taken.{Taken}
@@ -59,17 +62,18 @@ record ReadSo (S₀ : Stores) (input text : List ℕ) (s : Reading) (S : Stores)
   bytes : kept_bytes s ≡ take kept_most (unfinished input)
   written : text ≡ refusals 0 numbers
 
-module _ (S₀ : Stores) (input text part out out' : List ℕ) (s : Reading) (S S' : Stores) (r : Taken)
+module _ (S₀ : Stores) (input text part out out' : List ℕ) (s : Reading) (S S' : Stores)
+    (r : Result Taken Refusal)
     (h : ReadSo S₀ input text s S) (room : refusal_room * length part ≤ length out)
     (t : TakenBy s part out S out' S' r) where
-  take_none : r.number ≡ 0
+  take_none : answer_number r ≡ 0
   take_none =
       t.number
       ∙ sym
       (take_whole s (length part) (length out) (omega (arith, h.kept, length-take kept_most (unfinished input)))
       (omega arith))
 
-  here : PartTaken s part out S out' S' r
+  here : PartTaken s part out S out' S' (taken_of s r)
   here = t.accepted take_none
 
   -- the lines of the part, and what is kept after it, are those of the input
@@ -83,12 +87,12 @@ module _ (S₀ : Stores) (input text part out out' : List ℕ) (s : Reading) (S 
       ∙ kept-rest (unfinished input) part (rest-none input)
       ∙ ap (take kept_most) (sym (cut-rest input part))
 
-  read-part : ReadSo S₀ (input ++ part) (text ++ take r.bytes out') r.reading S'
+  read-part : ReadSo S₀ (input ++ part) (text ++ take (taken_of s r).bytes out') (taken_of s r).reading S'
   read-part =
       let ks = here.numbers in
-      let s' = r.reading.session in
+      let s' = (taken_of s r).reading.session in
       let x = subst (λ (ls : List Line). Steps s.session S ls ks s' S') values-are here.steps in
-      let more : take r.bytes out' ≡ refusals s.lines ks =
+      let more : take (taken_of s r).bytes out' ≡ refusals s.lines ks =
       ap₂ take here.bytes here.text ∙ take-append_seam (refusals s.lines ks) _ in
       record {
         numbers = h.numbers ++ ks;
@@ -118,7 +122,7 @@ module _ (st : State) (s : Reading) (S : Stores) (out rows' out' : List ℕ) (r 
   kept_here : s.session.complete ≡ true → Kept (machine_of st) (plan_of s.session) (wall_of s.session S)
   kept_here c = rw e (a.late (ap (λ (v : Session). v.complete) (sym e) ∙ c))
 
-  finish-none : r.number ≡ 0
+  finish-none : answer_number r ≡ 0
   unfolding finish_number first_of
   finish-none = f.number ∙ go s.session.complete refl
     where
@@ -139,14 +143,14 @@ module _ (st : State) (s : Reading) (S : Stores) (out rows' out' : List ℕ) (r 
       go false c = rw (le-ltb (length out) finish_room room)
 
   -- what `finish` adds
-  end-written : take r.bytes out' ≡ rest_text s ++ report_text st
+  end-written : take (bytes_of r) out' ≡ rest_text s ++ report_text st
   unfolding report_text
   end-written = rw (← e) (go s.session.complete refl)
     where
       -- with the reading's session, which is the state's
       Goal : Bool → Type 0
       Goal b =
-          take r.bytes out'
+          take (bytes_of r) out'
           ≡ rest_text s
           ++ pick b (printed_rows (plan_of s.session) (join_of s.session.minimum st.outer st.inner))
           (count_line 0)
@@ -160,7 +164,7 @@ module _ (st : State) (s : Reading) (S : Stores) (out rows' out' : List ℕ) (r 
           rows-printed (machine_of st) s.session S (rw e a.good) (kept_here c) (drop n out)
           (take (used_rows s.session) rows') (drop n out') g.reported g.report enough in
           ap (λ (n : ℕ). take n out') g.bytes
-          ∙ take-add n g.reported.bytes out'
+          ∙ take-add n (bytes_of g.reported) out'
           ∙ ap₂ ◌++◌ g.rest (ap₂ take p.bytes p.text ∙ take-append_seam _ _)
 
       without-report : NoReport s S.rows out rows' out' r → Goal false

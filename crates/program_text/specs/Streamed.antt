@@ -1,15 +1,18 @@
 -- The theorem of the program's text, stated: for every list of bytes and every way to cut it into parts, what the calls
 -- of `stream` write, in order, is the text of the whole input. It is proved in proofs/Streams.antt (`streamed`), with
 -- what follows from it and with laws of the definitions.
-use Rattle.std.specs.Prelude.{false, List, [], ◌∷◌, ◌++◌, map, ◌≡◌, ℕ, ◌*◌, ◌≤◌, length, take}
+use Rattle.std.specs.Prelude.{false, List, [], ◌∷◌, ◌++◌, map, ◌≡◌, ℕ, ◌*◌, ◌≤◌, length, take, Result}
 use Rattle.lists.specs.Members.{any}
+use Rattle.refusal.specs.Refusal.{answer_number}
+use Rattle.refusal.specs.declared.Refusal.{Refusal}
 use Rattle.checks.specs.Stores.{Stores}
 use Rattle.lines.specs.Line.{in_capitals}
 use Rattle.refusal_text.specs.Refusals.{refusal_room, last_line, line_count, refusals, unfinished_text}
 use Rattle.session.specs.Session.{EightPartitions}
-use Rattle.text_end.specs.declared.Finished.{Finished}
+use Rattle.report.specs.Report.{bytes_of}
+use Rattle.text_end.specs.Ending.{Finished}
 use Rattle.stream.specs.Input.{is_end, finished_lines, unfinished, values_of, values_after, rest_after}
-use Rattle.stream.specs.Taking.{kept_most, at_start, TakenBy}
+use Rattle.stream.specs.Taking.{kept_most, at_start, taken_of, TakenBy}
 use Rattle.stream.specs.Finishing.{finish_room, FinishedBy}
 use Rattle.stream.specs.declared.Reading.{Reading}
 use Rattle.stream.specs.declared.Taken.{Taken}
@@ -21,9 +24,10 @@ use Rattle.program_text.specs.Text.{begun, numbers_of, text_of_input}
 -- words after them.
 pub data Reads (S₀ : Stores) : List (List ℕ) → List ℕ → Reading → Stores → Type 0 where
   started : Reads S₀ [] [] at_start S₀
-  then : {parts : List (List ℕ)} {text : List ℕ} {s : Reading} {S S' : Stores} {out out' : List ℕ} {r : Taken}
-      (part : List ℕ) → Reads S₀ parts text s S → refusal_room * length part ≤ length out
-      → TakenBy s part out S out' S' r → Reads S₀ (part ∷ parts) (text ++ take r.bytes out') r.reading S'
+  then : {parts : List (List ℕ)} {text : List ℕ} {s : Reading} {S S' : Stores} {out out' : List ℕ}
+      {r : Result Taken Refusal} (part : List ℕ) → Reads S₀ parts text s S → refusal_room * length part ≤ length out
+      → TakenBy s part out S out' S' r
+      → Reads S₀ (part ∷ parts) (text ++ take (taken_of s r).bytes out') (taken_of s r).reading S'
 
 -- the input that parts, the last first, make
 abbrev pub input_of : List (List ℕ) → List ℕ
@@ -34,7 +38,7 @@ input_of (part ∷ parts) = input_of parts ++ part
 pub data Prints (S₀ : Stores) : List (List ℕ) → List ℕ → Type 0 where
   finished : {parts : List (List ℕ)} {text : List ℕ} {s : Reading} {S : Stores} {out rows' out' : List ℕ} {r : Finished}
       → Reads S₀ parts text s S → finish_room ≤ length out → FinishedBy s S.rows out rows' out' r
-      → Prints S₀ parts (text ++ take r.bytes out')
+      → Prints S₀ parts (text ++ take (bytes_of r) out')
 
 -- what was written after some parts is the refusals of the lines finished so far; all that is written is the text of
 -- the input
@@ -66,10 +70,10 @@ Prefix =
 
 -- no call of such a run is refused: with room for its text, each `take` answers 0, and so does `finish`
 pub record NotRefused (s : Reading) (S : Stores) : Type 0 where
-  pub taken : (part out out' : List ℕ) (S' : Stores) (r : Taken) → refusal_room * length part ≤ length out
-      → TakenBy s part out S out' S' r → r.number ≡ 0
+  pub taken : (part out out' : List ℕ) (S' : Stores) (r : Result Taken Refusal)
+      → refusal_room * length part ≤ length out → TakenBy s part out S out' S' r → answer_number r ≡ 0
   pub ended : (out rows' out' : List ℕ) (r : Finished) → finish_room ≤ length out
-      → FinishedBy s S.rows out rows' out' r → r.number ≡ 0
+      → FinishedBy s S.rows out rows' out' r → answer_number r ≡ 0
 
 abbrev pub NeverRefused : Type 0
 NeverRefused =

@@ -28,12 +28,7 @@ pub struct Question {
 pub fn cleared(q: Question) -> Question
     ensures { result ≡ with_answer 0 q }
 {
-    let minute = q.minute;
-    Question {
-        label: q.label,
-        minute,
-        answer: 0,
-    }
+    Question { answer: 0, ..q }
 }
 
 // The window of no question: it has no chronon, and its first is past the calendar.
@@ -72,11 +67,9 @@ pub fn with_row(q: Question, r: Row) -> Question
     if r.valid.last.0 < q.minute.0 {
         return q;
     }
-    let minute = q.minute;
     Question {
-        label: q.label,
-        minute,
         answer: q.answer + 1,
+        ..q
     }
 }
 

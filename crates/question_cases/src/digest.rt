@@ -12,6 +12,9 @@ fn run(h: u64, words: &[u64]) -> u64 {
 
 // What a call answered, and the words after it.
 pub(crate) fn told(h: u64, a: Answer, words: &[u64]) -> u64 {
-    let counts = [a.number, a.changed, a.examined];
+    let counts = match a {
+        Ok(counted) => [0, counted.changed, counted.examined],
+        Err(refusal) => [refusal.into(), 0, 0],
+    };
     run(run(h, &counts), words)
 }

@@ -65,14 +65,21 @@ fn print(rt: &impl Print, n: u64, after: &str) -> io::Result<()> {
     print!(rt; "{n}{after}")
 }
 
+// The number of an answer and how many rows were read, 0 where it is refused, and the text after them.
+fn answered(rt: &impl Print, answer: Answer, after: &str) -> io::Result<()> {
+    print(rt, refusal::answer_number(answer), ",")?;
+    match answer {
+        Ok(counted) => print(rt, counted.examined, after),
+        Err(_) => print(rt, 0, after),
+    }
+}
+
 // The line of a list.
 fn line(rt: &impl Print, seed: u64, digest: u64, one: Answer, other: Answer) -> io::Result<()> {
     print(rt, seed, ",")?;
     print(rt, digest, ",")?;
-    print(rt, one.number, ",")?;
-    print(rt, one.examined, ",")?;
-    print(rt, other.number, ",")?;
-    print(rt, other.examined, "\n")
+    answered(rt, one, ",")?;
+    answered(rt, other, "\n")
 }
 
 // Asks a list in both forms.

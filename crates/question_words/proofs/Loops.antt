@@ -43,11 +43,7 @@ module _ (f : Question → Question) (ws : List ℕ) where
       ap length s.words ∙ words-length (front f i (questions_in ws))
       ∙ ap (λ (n : ℕ). n * question_width) (front_length f i (questions_in ws) ∙ questions-length ws) ∙ sym h.whole
 
-  -- the next question lies in the words, and is as it was
-  pub changed-inside : WholeQuestions ws → (i : ℕ) {ws' : List ℕ} → Changed f ws i ws' → i < length ws / question_width
-      → i * question_width + question_width ≤ length ws'
-  changed-inside h i s l = omega (arith, h.whole, changed-length h i s)
-
+  -- the next question is as it was
   pub changed-next : (i : ℕ) {ws' : List ℕ} → Changed f ws i ws' → i < length ws / question_width → (d : Question)
       → question_at ws' i ≡ get_or (questions_in ws) i d
   changed-next i {ws'} s l d =

@@ -1,18 +1,19 @@
 -- The invariant of the loop over the rows of a scan (crate question's `Counting`), of the questions in words.
--- In order: the start, room for the next row, one more, the end.
+-- In order: room for the next row, one more, the end.
 -- Assumes nothing.
-use mathlib.Core.Bool.{true, false}
+use mathlib.Core.Bool.{true}
 use mathlib.Core.List.{List, map}
-use mathlib.Core.Path.{◌≡◌, refl, sym, ap, ◌∙◌}
+use mathlib.Core.Path.{◌≡◌, sym, ap, ◌∙◌}
 use Prim.Native.Nat.{ℕ}
 use lib.ListN.{length}
+use Rattle.std.specs.Prelude.{Option, Some, None}
 use Rattle.lists.specs.Members.{gather}
-use Rattle.cursor.specs.Cursor.{chosen, Started, Advanced}
+use Rattle.cursor.specs.Cursor.{chosen, Advanced}
 use Rattle.cursor.specs.declared.Cursor.{Cursor}
 use Rattle.cursor.specs.declared.Scan.{Scan}
 use Rattle.question.specs.Steps.{with_row, after_rows, room_for}
 use Rattle.question.specs.declared.Question.{Question}
-use Rattle.question.proofs.Turns.{Counting, counting-first, counting-room, counting-next, counting-end}
+use Rattle.question.proofs.Turns.{Counting, counting-room, counting-next, counting-end}
 use Rattle.question_words.specs.QuestionWords.{question_words, questions_in}
 use Rattle.question_words.specs.QuestionWords.{WholeQuestions, WordsBecame}
 use Rattle.question_words.proofs.Words.{questions-words, words-questions}
@@ -25,39 +26,32 @@ whole_long ws ws' e h = record { whole = rw e h.whole }
 pub became-questions : {qs : List Question} {ws ws' : List ℕ} → WordsBecame qs ws ws' → questions_in ws' ≡ qs
 became-questions {qs} b = rw b.words (questions-words qs)
 
--- of the rows of a scan, counted for the questions in the words ws, those at a cursor are left; the words are ws' now
-pub record CountingWords (s : Scan) (rows ws : List ℕ) (at : Cursor) (ws' : List ℕ) : Type 0 where
+-- of the rows of a scan, counted for the questions in the words ws, those at this place are left; the words are ws' now
+pub record CountingWords (s : Scan) (rows ws : List ℕ) (at : Option Cursor) (ws' : List ℕ) : Type 0 where
   pub counting : Counting s rows (questions_in ws) at (questions_in ws')
   pub whole : WholeQuestions ws'
   pub long : length ws' ≡ length ws
 
 module _ (s : Scan) (rows ws : List ℕ) where
-  pub words-first : WholeQuestions ws → room_for (length (chosen s rows)) (questions_in ws) ≡ true → (at : Cursor)
-      → Started s rows at → CountingWords s rows ws at ws
-  words-first h room at started = record {
-    counting = counting-first s rows (questions_in ws) at started room;
-    whole = h;
-    long = refl;
-  }
+  -- at a row
+  module _ (at : Option Cursor) (c : Cursor) (is : at ≡ Some c) {ws' : List ℕ} (k : CountingWords s rows ws at ws') where
+    -- there is room for it
+    pub words-room : room_for 1 (questions_in ws') ≡ true
+    words-room = counting-room s rows (questions_in ws) at c is (questions_in ws') k.counting
 
-  -- room for the next row
-  pub words-room : (at : Cursor) {ws' : List ℕ} → CountingWords s rows ws at ws' → at.found ≡ true
-      → room_for 1 (questions_in ws') ≡ true
-  words-room at {ws'} k found = counting-room s rows (questions_in ws) at (questions_in ws') k.counting found
+    -- it was counted
+    pub words-next : (next : Option Cursor) {ws'' : List ℕ} → Advanced s rows c next
+        → WordsBecame (map (with_row c.row) (questions_in ws')) ws' ws'' → CountingWords s rows ws next ws''
+    words-next next {ws''} adv b = record {
+      counting =
+          counting-next s rows (questions_in ws) at c is (questions_in ws') k.counting (questions_in ws'')
+          (became-questions b) next adv;
+      whole = whole_long ws' ws'' b.long k.whole;
+      long = b.long ∙ k.long;
+    }
 
-  -- it was counted
-  pub words-next : (at at' : Cursor) {ws' ws'' : List ℕ} → CountingWords s rows ws at ws' → Advanced s rows at at'
-      → WordsBecame (map (with_row at.row) (questions_in ws')) ws' ws'' → CountingWords s rows ws at' ws''
-  words-next at at' {ws'} {ws''} k next b = record {
-    counting =
-        counting-next s rows (questions_in ws) at (questions_in ws') k.counting (questions_in ws'')
-        (became-questions b) at' next;
-    whole = whole_long ws' ws'' b.long k.whole;
-    long = b.long ∙ k.long;
-  }
-
-  pub words-end : (at : Cursor) {ws' : List ℕ} → CountingWords s rows ws at ws' → at.found ≡ false
+  pub words-end : (at : Option Cursor) {ws' : List ℕ} → CountingWords s rows ws at ws' → at ≡ None
       → WordsBecame (after_rows (chosen s rows) (questions_in ws)) ws ws'
-  words-end at {ws'} k ended =
-      let done = counting-end s rows (questions_in ws) at (questions_in ws') k.counting ended in
+  words-end at {ws'} k is =
+      let done = counting-end s rows (questions_in ws) at is (questions_in ws') k.counting in
       record { words = sym (words-questions ws' k.whole) ∙ ap (gather question_words) done; long = k.long }

@@ -7,7 +7,8 @@ use Rattle.plan.specs.Plan.{plan_number}
 use Rattle.plan.specs.declared.Partitioning.{Partitioning}
 use Rattle.store.specs.Store.{stored_rows}
 use Rattle.checks.specs.Stores.{rows_length, rows_unsound}
-use Rattle.checks.specs.declared.Answer.{Answer}
+use Rattle.refusal.specs.Refusal.{answer_number}
+use Rattle.checks.specs.Answer.{Answer, changed_of, examined_of}
 use Rattle.question.specs.Question.{answered, rows_read}
 use Rattle.question.specs.declared.Question.{Question}
 
@@ -39,12 +40,12 @@ words_number p rows words =
 
 -- the words ws became ws'. "Refusals are 1 to 5 .. and leave all answers unchanged." The second count is the rows read
 pub record WordsAnswered (p : Partitioning) (rows ws ws' : List ℕ) (a : Answer) : Type 0 where
-  pub number : a.number ≡ words_number p rows (length ws)
-  pub changed : a.changed ≡ 0
-  pub refused : (a.number ≡ 0 → ⊥) → (ws' ≡ ws) × (a.examined ≡ 0)
-  pub accepted : a.number ≡ 0
+  pub number : answer_number a ≡ words_number p rows (length ws)
+  pub changed : changed_of a ≡ 0
+  pub refused : (answer_number a ≡ 0 → ⊥) → (ws' ≡ ws) × (examined_of a ≡ 0)
+  pub accepted : answer_number a ≡ 0
       → (ws' ≡ gather question_words (map (answered (stored_rows p rows)) (questions_in ws)))
-      × (a.examined ≡ rows_read p rows (questions_in ws))
+      × (examined_of a ≡ rows_read p rows (questions_in ws))
 
 -- ---- what the steps promise one another
 

@@ -7,18 +7,20 @@
 #![tactic(auto)]
 
 ghost use Rattle.std.specs.Prelude.{true, map, ◌≡◌, ◌+◌, ◌*◌, ◌≤◌, length};
+ghost use Rattle.refusal.specs.Refusal.{answer_number};
 ghost use Rattle.cursor.specs.Cursor.{chosen, Scannable};
 ghost use Rattle.question.specs.Question.{with_answer};
 ghost use Rattle.question.specs.Steps.{room_for, with_row, after_rows, window_of};
 ghost use Rattle.question_words.specs.QuestionWords.{question_width, question_at, questions_in, WholeQuestions};
 ghost use Rattle.question_words.specs.QuestionWords.{whole_check, words_number, WordsBecame, WordsAnswered};
 
-use checks::Answer;
+use checks::{Answer, Counted};
 use cursor::Scan;
 use interval::time::{Chronon, Interval};
 use interval::tuple::Row;
 use plan::Partitioning;
 use question::Question;
+use refusal::Refusal;
 
 // The words of a question.
 pub const QUESTION_WIDTH: usize = 3;
@@ -44,12 +46,10 @@ fn begin(ws: &mut [u64]) -> Interval
 {
     let n = ws.len() / QUESTION_WIDTH;
     let mut window = question::no_window();
-    let mut i: usize = 0;
-    while i < n {
+    for i in 0..n {
         let q = question_at(ws, i);
         window = question::widened(window, q);
         ws[i * QUESTION_WIDTH + 2] = question::cleared(q).answer;
-        i += 1;
     }
     window
 }
@@ -62,14 +62,12 @@ fn count_row(ws: &mut [u64], r: Row)
         ws.old ws.new }
 {
     let n = ws.len() / QUESTION_WIDTH;
-    let mut i: usize = 0;
-    while i < n {
+    for i in 0..n {
         let q = question_at(ws, i);
         if q.label == r.label {
             let next = question::with_row(q, r);
             ws[i * QUESTION_WIDTH + 2] = next.answer;
         }
-        i += 1;
     }
 }
 
@@ -82,37 +80,30 @@ fn count_rows(rows: &[u64], scan: Scan, ws: &mut [u64])
         ws.old ws.new }
 {
     let mut at = cursor::first(rows, scan);
-    while at.found {
-        let r = at.row;
-        count_row(ws, r);
-        at = cursor::next(rows, scan, at);
+    while let Some(c) = at {
+        count_row(ws, c.row);
+        at = cursor::next(rows, scan, c);
     }
 }
 
-// Check 4 of that many words: 4, or 0 if they are whole questions.
+// Check 4 of that many words: they are no whole questions.
 #[tactic(auto, unfolding(crate::specs::QuestionWords::whole_check))]
-fn whole_check(words: usize) -> u64
-    ensures { result ≡ whole_check words }
+fn whole_check(words: usize) -> Result<(), Refusal>
+    ensures { answer_number result ≡ whole_check words }
 {
-    if words % QUESTION_WIDTH == 0 { 0 } else { 4 }
+    if words % QUESTION_WIDTH == 0 {
+        return Ok(());
+    }
+    Err(Refusal::Length)
 }
 
 // Checks 1 to 5, of the rows store and that many words of questions.
-fn words_number(p: Partitioning, rows: &[u64], words: usize) -> u64
-    ensures { result ≡ words_number p rows.now words }
+fn words_number(p: Partitioning, rows: &[u64], words: usize) -> Result<(), Refusal>
+    ensures { answer_number result ≡ words_number p rows.now words }
 {
-    let number = plan::plan_number(p);
-    if number != 0 {
-        return number;
-    }
-    let long = checks::rows_length(p, rows.len());
-    if long != 0 {
-        return long;
-    }
-    let whole = whole_check(words);
-    if whole != 0 {
-        return whole;
-    }
+    plan::plan_number(p)?;
+    checks::rows_length(p, rows.len())?;
+    whole_check(words)?;
     checks::rows_unsound(p, rows)
 }
 
@@ -120,11 +111,11 @@ fn words_number(p: Partitioning, rows: &[u64], words: usize) -> u64
 pub fn answer(p: Partitioning, rows: &[u64], ws: &mut [u64]) -> Answer
     ensures { WordsAnswered p rows.now ws.old ws.new result }
 {
-    let number = words_number(p, rows, ws.len());
-    if number != 0 {
-        return checks::refused(number);
-    }
+    words_number(p, rows, ws.len())?;
     let scan = question::scan_of(p, begin(ws));
     count_rows(rows, scan, ws);
-    checks::accepted(0, cursor::stored(rows, scan))
+    Ok(Counted {
+        changed: 0,
+        examined: cursor::stored(rows, scan),
+    })
 }

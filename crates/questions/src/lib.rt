@@ -19,7 +19,7 @@ ghost use Rattle.question.specs.Question.{with_answer, answered, rows_read};
 ghost use Rattle.question.specs.Steps.{room_for, with_row, after_rows, window_of};
 ghost use Rattle.questions.specs.Answered.{QuestionsAnswered};
 
-use checks::Answer;
+use checks::{Answer, Counted};
 use cursor::Scan;
 use interval::time::Interval;
 use interval::tuple::Row;
@@ -31,13 +31,9 @@ fn begin(qs: &mut [Question]) -> Interval
     ensures { (qs.new ≡ map (with_answer 0) qs.old) × (result ≡ window_of qs.old) }
 {
     let mut window = question::no_window();
-    let mut i: usize = 0;
-    while i < qs.len() {
-        let q = qs[i];
-        window = question::widened(window, q);
-        let next = question::cleared(q);
-        qs[i] = next;
-        i += 1;
+    for q in qs.iter_mut() {
+        window = question::widened(window, *q);
+        *q = question::cleared(*q);
     }
     window
 }
@@ -47,12 +43,8 @@ fn count_row(qs: &mut [Question], r: Row)
     requires { room_for 1 qs.old ≡ true }
     ensures { qs.new ≡ map (with_row r) qs.old }
 {
-    let mut i: usize = 0;
-    while i < qs.len() {
-        let q = qs[i];
-        let next = question::with_row(q, r);
-        qs[i] = next;
-        i += 1;
+    for q in qs.iter_mut() {
+        *q = question::with_row(*q, r);
     }
 }
 
@@ -62,10 +54,9 @@ fn count_rows(rows: &[u64], scan: Scan, qs: &mut [Question])
     ensures { qs.new ≡ after_rows (chosen scan rows.now) qs.old }
 {
     let mut at = cursor::first(rows, scan);
-    while at.found {
-        let r = at.row;
-        count_row(qs, r);
-        at = cursor::next(rows, scan, at);
+    while let Some(c) = at {
+        count_row(qs, c.row);
+        at = cursor::next(rows, scan, c);
     }
 }
 
@@ -85,10 +76,10 @@ fn answer_sound(p: Partitioning, rows: &[u64], qs: &mut [Question]) -> u64
 pub fn answer(p: Partitioning, rows: &[u64], qs: &mut [Question]) -> Answer
     ensures { QuestionsAnswered p rows.now qs.old qs.new result }
 {
-    let number = checks::rows_number(p, rows);
-    if number != 0 {
-        return checks::refused(number);
-    }
+    checks::rows_number(p, rows)?;
     let read = answer_sound(p, rows, qs);
-    checks::accepted(0, read)
+    Ok(Counted {
+        changed: 0,
+        examined: read,
+    })
 }

@@ -1,3 +1,2 @@
--- Records moved within a part, and words cleared: their laws and the loops' invariants.
+-- Records moved within a part: their laws, and the invariant of the loop that swaps two.
 pub mod Movers
-pub mod Clearing

@@ -1,18 +1,20 @@
 -- Records moved within a part, over the width w of a record: `copied` and `swapped` (specs/Part of the crate `part`).
 -- In order: words written over record k; two records swapped; a place of one record is none of those of another that
--- are written so far; `Copying`, the invariant of `copy`; `Swapping`, that of `swap`; the stores of a removal.
+-- are written so far; `Swapping`, the invariant of `swap`; words copied within the part; the stores of a removal.
 -- Assumes nothing.
 use mathlib.Core.Bool.{Bool, true, false}
-use mathlib.Core.List.{List}
+use mathlib.Core.List.{List, append_assoc}
 use mathlib.Core.Path.{◌≡◌, refl, sym, ap, ◌∙◌}
 use Prim.Native.Nat.{ℕ, ◌+◌, ◌-◌, ◌≤◌, ◌<◌}
 use native.Mathlib.Nat.{add-sub_cancel_left}
 use native.Mathlib.Omega.{arith}
 use lib.Dec.{ltb}
 use lib.ListN.{length, get_or, take, drop, set, replicate, length-set, length-replicate}
-use lib.Seq.{sets, length-sets, drop-set-lt}
+use lib.Seq.{sets, length-sets, drop-drop, drop-set-lt}
 use borrow.Author.Tests.{ltb-true, ltb-false}
 use borrow.Rule.Slice.PartMut.{put_mid}
+use Rattle.std.proofs.lemmas.List.Edits.{swap_is}
+use Rattle.std.specs.List.{copy_within, swap}
 use Rattle.lists.specs.Words.{part_at}
 use Rattle.lists.proofs.Parts.{Apart, length_part, part-put, part-put-before, part-put-after, get_or-put-before}
 use Rattle.lists.proofs.Parts.{drop-sets, get_or-sets-apart, set-sets-apart, sets-part-more}
@@ -122,67 +124,29 @@ beside w i k j h m l b e = go (ltb i k) refl
     go true t = omega (arith, room_within w i k (ltb-true i k t))
     go false t = omega (arith, room-le w k i (ltb-false i k t))
 
--- record i's words over record k
-pub record Copying (w i k : ℕ) (part : List ℕ) (j : ℕ) (now : List ℕ) : Type 0 where
-  pub within : j ≤ w
-  pub holds : now ≡ sets part (room_of w k) (part_at (room_of w i) j part)
+-- the first j words of records i and k, each over the other's
+abbrev pub Swapping : ℕ → ℕ → ℕ → List ℕ → ℕ → List ℕ → Type 0
+Swapping w i k part j now =
+    now ≡ sets (sets part (room_of w i) (part_at (room_of w k) j part)) (room_of w k) (part_at (room_of w i) j part)
 
 module _ (w i k : ℕ) (part : List ℕ) where
-  pub copying-none : Copying w i k part 0 part
-  copying-none = record { within = omega arith; holds = refl }
-
-  pub copying-long : (j : ℕ) (now : List ℕ) → Copying w i k part j now → length now ≡ length part
-  copying-long j now s = ap length s.holds ∙ length-sets part (room_of w k) (part_at (room_of w i) j part)
-
-  pub copying-all : (j : ℕ) (now : List ℕ) → w ≤ j → Copying w i k part j now → now ≡ copied w i k part
-  unfolding copied
-  copying-all j now h s =
-      let end : j ≡ w = omega (arith, s.within) in
-      rw end at s.holds
-
-  pub copying-more : (j : ℕ) (now : List ℕ) → room_of w (i + 1) ≤ length part → j < w → Copying w i k part j now
-      → Copying w i k part (j + 1) (set now (room_of w k + j) (get_or now (room_of w i + j) 0))
-  copying-more j now fits h s = record {
-    within = omega arith;
-    holds = rw (s.holds, unread) (sets-part-more part at part (room_of w i) j 0 (omega (arith, room_next w i)));
-  }
-    where
-      at : ℕ
-      at = room_of w k
-
-      moved : List ℕ
-      moved = part_at (room_of w i) j part
-
-      unread : get_or (sets part at moved) (room_of w i + j) 0 ≡ get_or part (room_of w i + j) 0
-      unread =
-          get_or-sets-apart part at (room_of w i + j) moved 0
-          (rw (length_part (room_of w i) j part (omega (arith, room_next w i))) (beside w i k j h))
-
--- records i and k, each over the other
-pub record Swapping (w i k : ℕ) (part : List ℕ) (j : ℕ) (now : List ℕ) : Type 0 where
-  pub within : j ≤ w
-  pub holds : now
-      ≡ sets (sets part (room_of w i) (part_at (room_of w k) j part)) (room_of w k) (part_at (room_of w i) j part)
-
-module _ (w i k : ℕ) (part : List ℕ) where
-  pub swapping-none : Swapping w i k part 0 part
-  swapping-none = record { within = omega arith; holds = refl }
-
-  pub swapping-long : (j : ℕ) (now : List ℕ) → Swapping w i k part j now → length now ≡ length part
-  swapping-long j now s = ap length s.holds ∙ simp length-sets
-
-  pub swapping-all : (j : ℕ) (now : List ℕ) → w ≤ j → Swapping w i k part j now → now ≡ swapped w i k part
+  pub swapping-all : (j : ℕ) (now : List ℕ) → w ≤ j → j ≤ w → Swapping w i k part j now → now ≡ swapped w i k part
   unfolding swapped copied
-  swapping-all j now h s =
-      let end : j ≡ w = omega (arith, s.within) in
-      rw end at s.holds
+  swapping-all j now g h s =
+      let end : j ≡ w = omega arith in
+      rw end at s
 
   pub swapping-more : (j : ℕ) (now : List ℕ) → room_of w (i + 1) ≤ length part → room_of w (k + 1) ≤ length part → j < w
       → Swapping w i k part j now
-      → Swapping w i k part (j + 1)
-      (set (set now (room_of w i + j) (get_or now (room_of w k + j) 0)) (room_of w k + j) (get_or now (room_of w i + j) 0))
-  swapping-more j now low high h s = record { within = omega arith; holds = rw (s.holds, unread k, unread i) stored }
+      → Swapping w i k part (j + 1) (swap now (room_of w i + j) (room_of w k + j))
+  swapping-more j now low high h s =
+      sym (swap_is now (room_of w i + j) (room_of w k + j) 0 (omega (arith, long, room_next w i))
+      (omega (arith, long, room_next w k)))
+      ∙ rw (s, unread k, unread i) stored
     where
+      long : length now ≡ length part
+      long = ap length s ∙ simp length-sets
+
       at_i : ℕ
       at_i = room_of w i
 
@@ -229,19 +193,28 @@ module _ (w i k : ℕ) (part : List ℕ) where
           (sets-part-more part at_i part at-k j 0 (omega (arith, room_next w k))))
           ∙ sets-part-more more at-k part at_i j 0 (omega (arith, room_next w i))
 
+-- ---- n words copied within the part, as a run of stores
+
+pub within-stores : (from n at : ℕ) (ws : List ℕ) → from + n ≤ length ws → at + n ≤ length ws
+    → copy_within ws from (from + n) at ≡ sets ws at (part_at from n ws)
+within-stores from n at ws source target =
+    rw (add-sub_cancel_left from n)
+    (append_assoc (take at ws) (part_at from n ws) (drop (at + n) ws)
+    ∙ rw (← drop-drop n at ws) (sym (stores at n ws (part_at from n ws) (length_part from n ws source) target)))
+
 -- ---- the stores of a removal: the last record over record k, then its own words, lent, cleared
 
 pub removed-by : (w k : ℕ) (part once zeroed : List ℕ) → k < counted part → room_of w (counted part) ≤ length part
-    → once ≡ copied w (counted part - 1) k (set part 0 (counted part - 1))
     → (let at = room_of w (counted part - 1) in
-    zeroed ≡ replicate (length (part_at at (at + w - at) once)) 0
+    once ≡ copy_within (set part 0 (counted part - 1)) at (at + w) (room_of w k)
+    → zeroed ≡ replicate (length (part_at at (at + w - at) once)) 0
     → put_mid at (at + w - at) once zeroed ≡ removed w k part)
 unfolding copied removed
 removed-by w k part once zeroed h fits c z =
     rw (z, add-sub_cancel_left at w, length_part at w once inside)
     (sym (stores at w once (replicate w 0) (length-replicate w 0) inside)
     ∙ ap (λ (ws : List ℕ). sets ws at (replicate w 0))
-    (c ∙ ap (λ (ws : List ℕ). sets (set part 0 n) (room_of w k) (take w ws)) (drop-set-lt at part 0 n (omega arith))))
+    (copy ∙ ap (λ (ws : List ℕ). sets (set part 0 n) (room_of w k) (take w ws)) (drop-set-lt at part 0 n (omega arith))))
   where
     n : ℕ
     n = counted part - 1
@@ -249,8 +222,14 @@ removed-by w k part once zeroed h fits c z =
     at : ℕ
     at = room_of w (counted part - 1)
 
-    long : length once ≡ length part
-    long = ap length c ∙ simp (length-sets, length-set)
+    last : at + w ≤ length (set part 0 n)
+    last = omega (arith, length-set part 0 n, room-last w (counted part) (omega arith))
+
+    over : room_of w k + w ≤ length (set part 0 n)
+    over = omega (arith, length-set part 0 n, room_within w k (counted part) h)
+
+    copy : once ≡ copied w n k (set part 0 n)
+    copy = c ∙ within-stores at w (room_of w k) (set part 0 n) last over
 
     inside : at + w ≤ length once
-    inside = omega (arith, long, room-last w (counted part) (omega arith))
+    inside = omega (arith, last, ap length copy, length-sets (set part 0 n) (room_of w k) (part_at at w (set part 0 n)))

@@ -5,12 +5,14 @@
 #![tactic(auto)]
 
 ghost use Rattle.std.specs.Prelude.{false, ◌≡◌};
+ghost use Rattle.refusal.specs.Refusal.{answer_number};
 ghost use Rattle.checks.specs.Stores.{stores, store_number};
 ghost use Rattle.repartitioning.specs.Moving.{tuples_overfull, rows_overfull, move_number, TuplesMoved, RowsMoved};
 ghost use Rattle.repartitioning.specs.Moving.{Recut, TuplesStand, RowsStand};
 
 use interval::tuple::{ROW_WIDTH, TUPLE_WIDTH};
 use plan::Partitioning;
+use refusal::Refusal;
 
 // Whether a partition of q would get more of a tuple store's tuples than its capacity.
 pub fn tuples_overfull(p: Partitioning, q: Partitioning, ws: &[u64]) -> bool
@@ -39,21 +41,21 @@ pub fn move_number(
     outer: &[u64],
     inner: &[u64],
     rows: &[u64],
-) -> u64
+) -> Result<(), Refusal>
     requires recut { Recut p q }
     requires rows_value { store_number p (stores outer.now inner.now rows.now) ≡ 0 }
-    ensures { result ≡ move_number p q (stores outer.now inner.now rows.now) }
+    ensures { answer_number result ≡ move_number p q (stores outer.now inner.now rows.now) }
 {
     if tuples_overfull(p, q, outer) {
-        return 9;
+        return Err(Refusal::Full);
     }
     if tuples_overfull(p, q, inner) {
-        return 9;
+        return Err(Refusal::Full);
     }
     if rows_overfull(p, q, rows) {
-        return 10;
+        return Err(Refusal::Crowded);
     }
-    0
+    Ok(())
 }
 
 // Moves each tuple of a tuple store to the partition of q that it belongs to, where all fit.

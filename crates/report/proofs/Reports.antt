@@ -8,39 +8,38 @@ use native.Mathlib.Omega.{arith}
 use lib.Dec.{ltb}
 use lib.ListN.{length}
 use borrow.Author.Tests.{ltb-false, lt-ltb, le-ltb}
+use Rattle.std.specs.Prelude.{Ok, Err}
 use Rattle.lists.specs.Choice.{refuse_if}
 use Rattle.lists.proofs.Choice.{first-none, refuse-none, refuse-met, refuse-passed}
-use Rattle.lists.proofs.Choice.{answer-here, answer-next, answer-last}
+use Rattle.lists.proofs.Choice.{answer-next, answer-last}
+use Rattle.refusal.specs.Refusal.{number, answer_number}
+use Rattle.refusal.specs.declared.Refusal.{Refusal}
+use Rattle.refusal.proofs.Answering.{number-above}
 use Rattle.plan.specs.declared.Partitioning.{Partitioning}
 use Rattle.checks.specs.Stores.{rows_number, SoundStore}
 use Rattle.checks.proofs.Checks.{sound-store}
 use Rattle.text_buffer.specs.Buffer.{Put}
 use Rattle.report.specs.Text.{row_count, text_of}
-use Rattle.report.specs.Report.{text_room, report_number, SortedStore, ReportWritten}
+use Rattle.report.specs.Report.{text_room, report_number, SortedStore, Reported, ReportWritten}
 use Rattle.report.proofs.Partitions.{sorted-sound}
 use Rattle.report.proofs.Bounds.{row-count-sorted, text-bound}
 
 -- ---- going down the checks
 
-module _ (p : Partitioning) (rows : List ℕ) (room : ℕ) where
-  pub refuses-store : (n : ℕ) → n ≡ rows_number p rows → (n ≡ 0 → ⊥) → n ≡ report_number p rows room
+module _ (p : Partitioning) (rows : List ℕ) (room : ℕ) (s : rows_number p rows ≡ 0) where
+  sound-next : (r : ℕ) → r ≡ refuse_if (ltb room (text_room (row_count p rows))) 4 → r ≡ report_number p rows room
   unfolding report_number
-  refuses-store n e h = answer-here _ e h
+  sound-next r e = answer-next {n = rows_number p rows} _ refl s (answer-last e)
 
-  module _ (s : rows_number p rows ≡ 0) where
-    sound-next : (r : ℕ) → r ≡ refuse_if (ltb room (text_room (row_count p rows))) 4 → r ≡ report_number p rows room
-    unfolding report_number
-    sound-next r e = answer-next {n = rows_number p rows} _ refl s (answer-last e)
+  pub refuses-buffer : room < text_room (row_count p rows) → 4 ≡ report_number p rows room
+  refuses-buffer h =
+      sound-next 4
+      (sym (refuse-met (ltb room (text_room (row_count p rows))) 4 (lt-ltb room (text_room (row_count p rows)) h)))
 
-    pub refuses-buffer : room < text_room (row_count p rows) → 4 ≡ report_number p rows room
-    refuses-buffer h =
-        sound-next 4
-        (sym (refuse-met (ltb room (text_room (row_count p rows))) 4 (lt-ltb room (text_room (row_count p rows)) h)))
-
-    pub passes : text_room (row_count p rows) ≤ room → 0 ≡ report_number p rows room
-    passes h =
-        sound-next 0
-        (sym (refuse-passed (ltb room (text_room (row_count p rows))) 4 (le-ltb room (text_room (row_count p rows)) h)))
+  pub passes : text_room (row_count p rows) ≤ room → 0 ≡ report_number p rows room
+  passes h =
+      sound-next 0
+      (sym (refuse-passed (ltb room (text_room (row_count p rows))) 4 (le-ltb room (text_room (row_count p rows)) h)))
 
 -- ---- what passed checks leave known
 
@@ -62,18 +61,20 @@ passed p rows room e =
 
 -- ---- the answers
 
-module _ (p : Partitioning) (rows out : List ℕ) (n : ℕ) (number : n ≡ report_number p rows (length out)) where
-  pub report-refused : (n ≡ 0 → ⊥) → ReportWritten p rows out rows out (record { number = n; bytes = 0 })
-  report-refused h = record {
-    number = number;
+module _ (p : Partitioning) (rows out : List ℕ) where
+  pub report-refused : (r : Reported) (refusal : Refusal) → answer_number r ≡ number refusal
+      → number refusal ≡ report_number p rows (length out) → ReportWritten p rows out rows out r
+  report-refused (Ok bytes) refusal e n = absurd (number-above refusal (sym e))
+  report-refused (Err other) refusal e n = record {
+    number = e ∙ n;
     refused = λ z. (refl, (refl, refl));
-    store = λ z. absurd (h z);
-    written = λ z. absurd (h z);
+    store = λ z. absurd (number-above other z);
+    written = λ z. absurd (number-above other z);
   }
 
-  module _ (none : n ≡ 0) where
+  module _ (none : 0 ≡ report_number p rows (length out)) where
     ready : Passed p rows (length out)
-    ready = passed p rows (length out) (sym number ∙ none)
+    ready = passed p rows (length out) (sym none)
 
     pub report-store : SoundStore p rows
     report-store = ready.store
@@ -87,9 +88,9 @@ module _ (p : Partitioning) (rows out : List ℕ) (n : ℕ) (number : n ≡ repo
 
     pub report-accepted : (rows' out' : List ℕ) (bytes : ℕ) → SortedStore p rows rows'
         → Put 0 (text_of p rows') out out' bytes
-        → ReportWritten p rows out rows' out' (record { number = 0; bytes = bytes })
+        → ReportWritten p rows out rows' out' (Ok bytes)
     report-accepted rows' out' bytes s w = record {
-      number = sym none ∙ number;
+      number = none;
       refused = λ z. absurd (z refl);
       store = λ z. s;
       written = λ z. record {

@@ -1,5 +1,5 @@
 -- The report of a wall's rows: what `write` answers and leaves, in terms of the words and bytes it was lent.
-use Rattle.std.specs.Prelude.{true, List, [], ◌∷◌, ◌++◌, ◌≡◌, ℕ, ◌+◌, ◌*◌, ◌≤◌, ◌<◌, ltb, length, drop}
+use Rattle.std.specs.Prelude.{true, List, [], ◌∷◌, ◌++◌, ◌≡◌, ℕ, ◌+◌, ◌*◌, ◌≤◌, ◌<◌, ltb, length, drop, Result, Ok, Err}
 use Rattle.lists.specs.Choice.{refuse_if, first_of}
 use Rattle.lists.specs.Same.{Same}
 use Rattle.interval.specs.Tuple.{same_row}
@@ -9,7 +9,8 @@ use Rattle.store.specs.Store.{row_part, sound_rows}
 use Rattle.checks.specs.Stores.{rows_number}
 use Rattle.report.specs.Order.{sorted}
 use Rattle.report.specs.Text.{head_bytes, row_bytes, row_count, text_of}
-use Rattle.report.specs.declared.Reported.{Reported}
+use Rattle.refusal.specs.Refusal.{answer_number}
+use Rattle.refusal.specs.declared.Refusal.{Refusal}
 
 -- the bytes that the text of so many rows surely fits in (proved in proofs/Bounds.antt: text-bound)
 abbrev pub text_room : ℕ → ℕ
@@ -36,8 +37,16 @@ pub record TextWritten (p : Partitioning) (rows' out out' : List ℕ) (bytes : �
   pub size : bytes ≡ length (text_of p rows')
   pub within : bytes ≤ length out
 
+-- what the call answers: the length of the text, or a refusal, with no text
+abbrev pub Reported : Type 0
+Reported = Result ℕ Refusal
+
+abbrev pub bytes_of : Result ℕ Refusal → ℕ
+bytes_of (Ok bytes) = bytes
+bytes_of (Err refusal) = 0
+
 pub record ReportWritten (p : Partitioning) (rows out rows' out' : List ℕ) (r : Reported) : Type 0 where
-  pub number : r.number ≡ report_number p rows (length out)
-  pub refused : (r.number ≡ 0 → ⊥) → (rows' ≡ rows) × ((out' ≡ out) × (r.bytes ≡ 0))
-  pub store : r.number ≡ 0 → SortedStore p rows rows'
-  pub written : r.number ≡ 0 → TextWritten p rows' out out' r.bytes
+  pub number : answer_number r ≡ report_number p rows (length out)
+  pub refused : (answer_number r ≡ 0 → ⊥) → (rows' ≡ rows) × ((out' ≡ out) × (bytes_of r ≡ 0))
+  pub store : answer_number r ≡ 0 → SortedStore p rows rows'
+  pub written : answer_number r ≡ 0 → TextWritten p rows' out out' (bytes_of r)

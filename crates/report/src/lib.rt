@@ -11,23 +11,21 @@ mod order;
 mod text;
 
 ghost use Rattle.std.specs.Prelude.{◌≡◌};
+ghost use Rattle.refusal.specs.Refusal.{answer_number};
 ghost use Rattle.checks.specs.Stores.{SoundStore};
 ghost use Rattle.report.specs.Text.{row_count};
 ghost use Rattle.report.specs.Report.{report_number, ReportWritten};
 
 use plan::{PartitionIndex, Partitioning};
+use refusal::Refusal;
 
 // The bytes that the line `rows,COUNT` surely fits in, and those for a row's line.
 pub const HEAD_BYTES: usize = 16;
 
 pub const ROW_BYTES: usize = 48;
 
-// What `write` answers: the refusal number (0: accepted) and the length of the text.
-#[derive(Clone, Copy)]
-pub struct Reported {
-    pub number: u64,
-    pub bytes: usize,
-}
+// What `write` answers: the length of the text, or the refusal that applies first.
+pub type Reported = Result<usize, Refusal>;
 
 // The number of stored rows in all lanes.
 fn count_rows(p: Partitioning, rows: &[u64]) -> u64
@@ -36,37 +34,28 @@ fn count_rows(p: Partitioning, rows: &[u64]) -> u64
 {
     let room = store::row_room(p);
     let mut count: u64 = 0;
-    let mut i: u64 = 0;
-    while i < p.count {
+    for i in 0..p.count {
         count += part::count(store::partition(rows, room, PartitionIndex(i)));
-        i += 1;
     }
     count
 }
 
 // The checks: of plan and store (1 to 5 and 18), and of the buffer's length (4).
-fn report_number(p: Partitioning, rows: &[u64], room: usize) -> u64
-    ensures { result ≡ report_number p rows.now room }
+fn report_number(p: Partitioning, rows: &[u64], room: usize) -> Result<(), Refusal>
+    ensures { answer_number result ≡ report_number p rows.now room }
 {
-    let number = checks::rows_number(p, rows);
-    if number != 0 {
-        return number;
-    }
+    checks::rows_number(p, rows)?;
     if room < HEAD_BYTES + ROW_BYTES * count_rows(p, rows) as usize {
-        return 4;
+        return Err(Refusal::Length);
     }
-    0
+    Ok(())
 }
 
 // Sorts the rows of each lane in place, and writes the report of them into `out`.
 pub fn write(p: Partitioning, rows: &mut [u64], out: &mut [u8]) -> Reported
     ensures { ReportWritten p rows.old out.old rows.new out.new result }
 {
-    let number = report_number(p, rows, out.len());
-    if number != 0 {
-        return Reported { number, bytes: 0 };
-    }
+    report_number(p, rows, out.len())?;
     order::sort_all(p, rows);
-    let bytes = text::put_report(p, rows, out);
-    Reported { number: 0, bytes }
+    Ok(text::put_report(p, rows, out))
 }

@@ -47,10 +47,8 @@ fn put_partition(out: &mut [u8], at: usize, partition: u64, part: &[u64]) -> usi
 {
     let n = part::count(part) as usize;
     let mut next = at;
-    let mut k: usize = 0;
-    while k < n {
-        next = put_row(out, next, partition, part::row_at(part, k));
-        k += 1;
+    for k in 0..n {
+        next = put_row(out, next, partition, part::record_at(part, k));
     }
     next
 }
@@ -63,15 +61,13 @@ fn put_partitions(p: Partitioning, rows: &[u64], out: &mut [u8], at: usize) -> u
 {
     let room = store::row_room(p);
     let mut next = at;
-    let mut i: u64 = 0;
-    while i < p.count {
+    for i in 0..p.count {
         next = put_partition(
             out,
             next,
             i + 1,
             store::partition(rows, room, PartitionIndex(i)),
         );
-        i += 1;
     }
     next
 }

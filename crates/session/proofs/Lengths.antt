@@ -24,7 +24,8 @@ use Rattle.store.proofs.Stores.{on-length, partition-length}
 use Rattle.rows.specs.declared.Side.{Side}
 use Rattle.rows.specs.declared.Side.TheVariants.{Outer, Inner}
 use Rattle.checks.specs.Stores.{Stores, store_number}
-use Rattle.checks.specs.declared.Answer.{Answer}
+use Rattle.refusal.specs.Refusal.{answer_number}
+use Rattle.checks.specs.Answer.{Answer}
 use Rattle.insertion.specs.Changes.{Checked}
 use Rattle.insertion.specs.Inserts.{inserted}
 use Rattle.insertion.proofs.Sites.{at-within}
@@ -38,8 +39,8 @@ use Rattle.lines.specs.declared.Line.TheVariants.{Lane, Least, Change, Malformed
 use Rattle.session_plan.specs.Lanes.{plan_of, used_tuples, used_rows}
 use Rattle.session_plan.specs.declared.Session.{Session}
 use Rattle.session_plan.proofs.Plans.{Good}
-use Rattle.session.specs.Session.{wall_of, rest_of, Called, WallOpened, WallChanged, LaneTaken, Taken, SteppedBy}
-use Rattle.session.specs.declared.Stepped.{Stepped}
+use Rattle.session.specs.Session.{wall_of, rest_of, Called, WallOpened, WallChanged, LaneTaken, Taken}
+use Rattle.session.specs.Session.{Stepped, SteppedBy}
 use Rattle.session.proofs.Reached.{Reached, begun, then, reached-good}
 
 pub record SameLong (S S' : Stores) : Type 0 where
@@ -89,7 +90,7 @@ module _ (p : Partitioning) (t : Tuple) (S S' : Stores) (a : Answer) (places : l
       → (store_number p S ≡ 0) × (tuple_number t ≡ 0)
   checks ns e = let b = first-none (store_number p S) _ e in (b.0, (first-none (tuple_number t) ns b.1).0)
 
-  insert-long : (side : Side) → Inserted p side t S S' a → a.number ≡ 0 → SameLong S S'
+  insert-long : (side : Side) → Inserted p side t S S' a → answer_number a ≡ 0 → SameLong S S'
   unfolding insert_number
   insert-long Outer h z =
       let k = checks _ (sym h.number ∙ z) in
@@ -110,7 +111,7 @@ module _ (p : Partitioning) (t : Tuple) (S S' : Stores) (a : Answer) (places : l
         rows = r.rows.long;
       }
 
-  delete-long : (side : Side) → Deleted p side t S S' a → a.number ≡ 0 → SameLong S S'
+  delete-long : (side : Side) → Deleted p side t S S' a → answer_number a ≡ 0 → SameLong S S'
   unfolding delete_number
   delete-long Outer h z =
       let k = checks _ (sym h.number ∙ z) in
@@ -131,7 +132,7 @@ module _ (p : Partitioning) (t : Tuple) (S S' : Stores) (a : Answer) (places : l
         rows = sym r.rows.long;
       }
 
-  called-long : (w : Word) → Called w p t S S' a → a.number ≡ 0 → SameLong S S'
+  called-long : (w : Word) → Called w p t S S' a → answer_number a ≡ 0 → SameLong S S'
   called-long DrawIn h z = insert-long Outer h z
   called-long DrawOut h z = delete-long Outer h z
   called-long SpotIn h z = insert-long Inner h z
@@ -183,9 +184,9 @@ taken-long s Malformed S S' places h = absurd h
 pub step-long : (s : Session) (line : Line) (S S' : Stores) (r : Stepped) → Good s → SteppedBy s line S S' r
     → SameLong S S'
 step-long s line S S' r g h =
-    ⊎_elim (λ e. taken-long s line S S' g.places (h.accepted (eqb-true r.number 0 e)))
-    (λ e. long_kept S S' (h.refused (eqb-false r.number 0 e)).1)
-    (bool_cases (eqb r.number 0))
+    ⊎_elim (λ e. taken-long s line S S' g.places (h.accepted (eqb-true (answer_number r) 0 e)))
+    (λ e. long_kept S S' (h.refused (eqb-false (answer_number r) 0 e)).1)
+    (bool_cases (eqb (answer_number r) 0))
 
 pub reached-long : {S₀ : Stores} {s : Session} {S : Stores} → Reached S₀ s S → SameLong S₀ S
 reached-long begun = record { outer = refl; inner = refl; rows = refl }

@@ -15,15 +15,14 @@ use Rattle.session_plan.specs.Lanes.{fresh, lane_check}
 use Rattle.session_plan.specs.declared.Session.{Session}
 use Rattle.session_plan.proofs.Lanes.{lane-passed}
 use Rattle.session_plan.proofs.Plans.{Good, good-fresh, good-with, good-least}
-use Rattle.session.specs.Session.{lane_number, step_number, session_with, session_after, SteppedBy}
-use Rattle.session.specs.declared.Stepped.{Stepped}
+use Rattle.session.specs.Session.{lane_number, step_number, session_with, session_after, Stepped, stepped_to, SteppedBy}
 use Rattle.session.proofs.Steps.{after-refused, after-accepted}
 
 -- the sessions, and the stores with them, that steps reach from `fresh` and lent words S₀, which nobody else writes in
 pub data Reached (S₀ : Stores) : Session → Stores → Type 0 where
   begun : Reached S₀ fresh S₀
   then : {s : Session} {S S' : Stores} {line : Line} {r : Stepped} → Reached S₀ s S → SteppedBy s line S S' r
-      → Reached S₀ r.session S'
+      → Reached S₀ (stepped_to s r) S'
 
 -- ---- a step, and every session reached
 
@@ -49,7 +48,7 @@ good-after s line S g = ⊎_elim accepted refused (bool_cases (eqb (step_number 
     refused e = subst Good (sym (after-refused s line S (eqb-false (step_number s line S) 0 e))) g
 
 pub good-step : (s : Session) (line : Line) (S S' : Stores) (r : Stepped) → Good s → SteppedBy s line S S' r
-    → Good r.session
+    → Good (stepped_to s r)
 good-step s line S S' r g h = subst Good (sym h.session) (good-after s line S g)
 
 pub reached-good : {S₀ : Stores} {s : Session} {S : Stores} → Reached S₀ s S → Good s

@@ -14,7 +14,8 @@ use Rattle.interval.specs.declared.tuple.Tuple.{Tuple}
 use Rattle.plan.specs.declared.Partitioning.{Partitioning}
 use Rattle.rows.specs.declared.Side.{Side}
 use Rattle.checks.specs.Stores.{Stores, stores}
-use Rattle.checks.specs.declared.Answer.{Answer}
+use Rattle.refusal.specs.Refusal.{answer_number}
+use Rattle.checks.specs.Answer.{Answer}
 use Rattle.join.specs.Opening.{Opened}
 use Rattle.join.specs.Changes.{Changed}
 use Rattle.join.specs.declared.Kind.{Kind}
@@ -29,14 +30,14 @@ use Rattle.session.specs.Session.{WallOpening, WallChanging}
 -- ---- a call's number, and that a refused one keeps the stores
 
 pub called-number : (w : Word) (p : Partitioning) (t : Tuple) (S S' : Stores) (a : Answer) → Called w p t S S' a
-    → a.number ≡ call_number w p t S
+    → answer_number a ≡ call_number w p t S
 called-number DrawIn p t S S' a h = h.number
 called-number DrawOut p t S S' a h = h.number
 called-number SpotIn p t S S' a h = h.number
 called-number SpotOut p t S S' a h = h.number
 
 pub called-refused : (w : Word) (p : Partitioning) (t : Tuple) (S S' : Stores) (a : Answer) → Called w p t S S' a
-    → (a.number ≡ 0 → ⊥) → S' ≡ S
+    → (answer_number a ≡ 0 → ⊥) → S' ≡ S
 called-refused DrawIn p t S S' a h ne = (h.refused ne).kept
 called-refused DrawOut p t S S' a h ne = (h.refused ne).kept
 called-refused SpotIn p t S S' a h ne = (h.refused ne).kept
@@ -91,7 +92,7 @@ module _ (s : Session) (a b c : ℕ) (o i r : List ℕ) (x : a ≡ min (used_tup
     -- ---- open
 
     pub wall-opening : (p : Partitioning) (t : Answer) → p ≡ plan_of s → Opened p lent (stores o' i' r') t
-        → WallOpening s (stores o i r) after t.number
+        → WallOpening s (stores o i r) after (answer_number t)
     wall-opening p t e h =
         let g : Opened (plan_of s) (wall_of s (stores o i r)) (wall_of s after) t =
         subst (λ (w : Stores). Opened (plan_of s) w (wall_of s after) t) lent-wall
@@ -106,7 +107,7 @@ module _ (s : Session) (a b c : ℕ) (o i r : List ℕ) (x : a ≡ min (used_tup
     -- ---- a change
 
     pub wall-changing : (w : Word) (p : Partitioning) (t : Tuple) (n : Answer) → s.complete ≡ true → p ≡ plan_of s
-        → Called w p t lent (stores o' i' r') n → WallChanging s w t (stores o i r) after n.number
+        → Called w p t lent (stores o' i' r') n → WallChanging s w t (stores o i r) after (answer_number n)
     unfolding change_line_number
     wall-changing w p t n d e h =
         let g : Called w (plan_of s) t (wall_of s (stores o i r)) (wall_of s after) n =

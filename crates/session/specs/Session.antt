@@ -2,7 +2,7 @@
 -- uses, the number that a line gets, and what a line leaves. The session, its plan, how many words its lanes use and
 -- the checks of a lane line and of a `least` line are in crate `session_plan`.
 -- The laws are in proofs/: Reached (the sessions that steps reach), Numbers (the numbers that they meet).
-use Rattle.std.specs.Prelude.{not, [], ◌∷◌, ◌≡◌, ℕ, ◌≤◌, eqb, length, take, drop}
+use Rattle.std.specs.Prelude.{not, [], ◌∷◌, ◌≡◌, ℕ, ◌≤◌, eqb, length, take, drop, Result, Ok, Err}
 use Rattle.lists.specs.Choice.{pick, refuse_if, first_of}
 use Rattle.interval.specs.Time.{calendar_end}
 use Rattle.interval.specs.declared.time.Chronon.{Chronon}
@@ -11,7 +11,9 @@ use Rattle.plan.specs.declared.Partitioning.{Partitioning}
 use Rattle.rows.specs.declared.Side.{Side}
 use Rattle.rows.specs.declared.Side.TheVariants.{Outer, Inner}
 use Rattle.checks.specs.Stores.{Stores, stores, open_number}
-use Rattle.checks.specs.declared.Answer.{Answer}
+use Rattle.refusal.specs.Refusal.{answer_number}
+use Rattle.refusal.specs.declared.Refusal.{Refusal}
+use Rattle.checks.specs.Answer.{Answer}
 use Rattle.join.specs.Opening.{blank}
 use Rattle.join.specs.Changes.{insert_number, delete_number, Changed}
 use Rattle.join.specs.declared.Kind.{Kind}
@@ -24,7 +26,6 @@ use Rattle.lines.specs.declared.Line.TheVariants.{Lane, Least, Change, Malformed
 use Rattle.session_plan.specs.Lanes.{plan_of, with_lane, with_minimum, used_tuples, used_rows, wall_tuple_words, wall_row_words}
 use Rattle.session_plan.specs.Lanes.{lane_check, least_check}
 use Rattle.session_plan.specs.declared.Session.{Session}
-use Rattle.session.specs.declared.Stepped.{Stepped}
 
 -- ---- the lent stores, and the words in use
 
@@ -115,7 +116,7 @@ pub record WallOpened (s : Session) (S S' : Stores) : Type 0 where
 -- a call on the wall: what it answered and left in the words in use, and no other word changed
 pub record WallChanged (s : Session) (w : Word) (t : Tuple) (S S' : Stores) : Type 0 where
   pub answer : Answer
-  pub number : answer.number ≡ 0
+  pub number : answer_number answer ≡ 0
   pub wall : Called w (plan_of s) t (wall_of s S) (wall_of s S') answer
   pub rest : rest_of s S' ≡ rest_of s S
 
@@ -133,11 +134,20 @@ Taken s Malformed S S' = ⊥
 
 -- ---- a step: the stores S before and S' after a line that a session took
 
+-- what a line gets: the session after it, or its refusal
+abbrev pub Stepped : Type 0
+Stepped = Result Session Refusal
+
+-- the session after a line: the answer's, or where it was refused the one before
+abbrev pub stepped_to : Session → Stepped → Session
+stepped_to s (Ok next) = next
+stepped_to s (Err refusal) = s
+
 pub record SteppedBy (s : Session) (line : Line) (S S' : Stores) (r : Stepped) : Type 0 where
-  pub number : r.number ≡ step_number s line S
-  pub session : r.session ≡ session_after s line S
-  pub refused : (r.number ≡ 0 → ⊥) → (r.session ≡ s) × (S' ≡ S)
-  pub accepted : r.number ≡ 0 → Taken s line S S'
+  pub number : answer_number r ≡ step_number s line S
+  pub session : stepped_to s r ≡ session_after s line S
+  pub refused : (answer_number r ≡ 0 → ⊥) → (stepped_to s r ≡ s) × (S' ≡ S)
+  pub accepted : answer_number r ≡ 0 → Taken s line S S'
 
 -- ---- the parts of a step: opening a wall, and a change
 

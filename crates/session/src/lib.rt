@@ -7,37 +7,35 @@
 #![tactic(auto)]
 
 ghost use Rattle.std.specs.Prelude.{◌≡◌};
+ghost use Rattle.refusal.specs.Refusal.{answer_number};
 ghost use Rattle.checks.specs.Stores.{Stores, stores};
 ghost use Rattle.lines.specs.Line.{line_of};
 ghost use Rattle.lines.specs.declared.Line.TheVariants.{Lane, Least};
 ghost use Rattle.session.specs.Session.{kind_of, side_of, WallOpening, WallChanging, SteppedBy};
 
+use checks::Answer;
 use interval::time::{CALENDAR_END, Chronon};
 use interval::tuple::Tuple;
 use join::Kind;
 use lines::{Line, Word};
+use refusal::Refusal;
 use rows::Side;
-use session_plan::{OUT_OF_TURN, Session};
+use session_plan::Session;
 
-// What a line gets: the session after it, and its number (0: accepted).
-#[derive(Clone, Copy)]
-pub struct Stepped {
-    pub session: Session,
-    pub number: u64,
-}
+// What a line gets: the session after it, or the refusal that applies first; the session then stays as it was.
+pub type Stepped = Result<Session, Refusal>;
 
 // Opens the wall of the session's plan, on the words in use.
-fn open_wall(s: Session, outer: &mut [u64], inner: &mut [u64], rows: &mut [u64]) -> u64
+fn open_wall(s: Session, outer: &mut [u64], inner: &mut [u64], rows: &mut [u64]) -> Answer
     ensures { WallOpening s
         (stores outer.old inner.old rows.old)
-        (stores outer.new inner.new rows.new) result }
+        (stores outer.new inner.new rows.new) (answer_number result) }
 {
     let p = session_plan::plan_of(s);
     let a = session_plan::used_tuples(s, outer.len());
     let b = session_plan::used_tuples(s, inner.len());
     let c = session_plan::used_rows(s, rows.len());
-    let answer = join::open(p, &mut outer[..a], &mut inner[..b], &mut rows[..c]);
-    answer.number
+    join::open(p, &mut outer[..a], &mut inner[..b], &mut rows[..c])
 }
 
 // A lane line.
@@ -52,45 +50,21 @@ fn take_lane(
         (stores outer.old inner.old rows.old)
         (stores outer.new inner.new rows.new) result }
 {
+    session_plan::lane_check(s, m)?;
     let after = session_plan::with_lane(s, m);
-    let number = session_plan::lane_check(s, m);
-    if number != 0 {
-        return Stepped { session: s, number };
-    }
     if m.0 != CALENDAR_END {
-        return Stepped {
-            session: after,
-            number: 0,
-        };
+        return Ok(after);
     }
-    let refusal = open_wall(after, outer, inner, rows);
-    if refusal != 0 {
-        return Stepped {
-            session: s,
-            number: refusal,
-        };
-    }
-    Stepped {
-        session: after,
-        number: 0,
-    }
+    open_wall(after, outer, inner, rows)?;
+    Ok(after)
 }
 
 // A `least` line: no store is read or written.
 fn take_least(s: Session, minimum: u64) -> Stepped
     ensures { (S : Stores) → SteppedBy s (Least minimum) S S result }
 {
-    let refusal = session_plan::least_check(s, minimum);
-    if refusal != 0 {
-        return Stepped {
-            session: s,
-            number: refusal,
-        };
-    }
-    Stepped {
-        session: session_plan::with_minimum(s, minimum),
-        number: 0,
-    }
+    session_plan::least_check(s, minimum)?;
+    Ok(session_plan::with_minimum(s, minimum))
 }
 
 // The kind of change that a word asks for: `in` inserts, `out` deletes.
@@ -125,13 +99,13 @@ fn change_on(
     outer: &mut [u64],
     inner: &mut [u64],
     rows: &mut [u64],
-) -> u64
+) -> Answer
     ensures { WallChanging s word t
         (stores outer.old inner.old rows.old)
-        (stores outer.new inner.new rows.new) result }
+        (stores outer.new inner.new rows.new) (answer_number result) }
 {
     if !s.complete {
-        return OUT_OF_TURN;
+        return Err(Refusal::OutOfTurn);
     }
     let kind = kind_of(word);
     let side = side_of(word);
@@ -139,7 +113,7 @@ fn change_on(
     let a = session_plan::used_tuples(s, outer.len());
     let b = session_plan::used_tuples(s, inner.len());
     let c = session_plan::used_rows(s, rows.len());
-    let done = join::change(
+    join::change(
         kind,
         p,
         side,
@@ -147,8 +121,7 @@ fn change_on(
         &mut outer[..a],
         &mut inner[..b],
         &mut rows[..c],
-    );
-    done.number
+    )
 }
 
 // The work on a line that was read.
@@ -167,13 +140,10 @@ pub fn step_value(
         Line::Lane(m) => take_lane(s, m, outer, inner, rows),
         Line::Least(minimum) => take_least(s, minimum),
         Line::Change(word, t) => {
-            let number = change_on(s, word, t, outer, inner, rows);
-            Stepped { session: s, number }
+            change_on(s, word, t, outer, inner, rows)?;
+            Ok(s)
         }
-        Line::Malformed => Stepped {
-            session: s,
-            number: lines::MALFORMED,
-        },
+        Line::Malformed => Err(Refusal::Malformed),
     }
 }
 

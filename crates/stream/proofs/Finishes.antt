@@ -11,21 +11,23 @@ use lib.Dec.{eqb}
 use lib.ListN.{length, take, drop, length-drop, length-take, length-append}
 use lib.Seq.{take-append_seam}
 use borrow.Author.Tests.{lt-ltb, le-ltb, eqb-true, eqb-false}
+use Rattle.std.specs.Prelude.{Ok, Err}
 use Rattle.lists.specs.Choice.{first_of}
 use Rattle.lists.proofs.Choice.{bool_cases}
+use Rattle.refusal.specs.Refusal.{answer_number}
+use Rattle.refusal.specs.declared.Refusal.TheVariants.{Length}
 use Rattle.text_buffer.specs.Buffer.{Put}
 use Rattle.report.specs.Text.{count_line}
-use Rattle.report.specs.Report.{report_number}
+use Rattle.report.specs.Report.{report_number, bytes_of}
 use Rattle.session_plan.specs.Lanes.{plan_of, used_rows}
-use Rattle.text_end.specs.Ending.{ReportEnded}
-use Rattle.text_end.specs.declared.Finished.{Finished}
+use Rattle.text_end.specs.Ending.{Finished, ReportEnded}
 use Rattle.stream.specs.Finishing.{rest_text, finish_room, finish_number, FinishedBy}
 use Rattle.stream.specs.declared.Reading.{Reading}
 
 -- ---- what `finish` answers
 
 pub finish-short : (s : Reading) (rows out : List ℕ) → length out < finish_room
-    → FinishedBy s rows out rows out (record { number = 4; bytes = 0 })
+    → FinishedBy s rows out rows out (Err Length)
 unfolding finish_number first_of
 finish-short s rows out h = record {
   number = rw (lt-ltb (length out) finish_room h);
@@ -78,7 +80,7 @@ module _ (s : Reading) (rows out : List ℕ) (room : finish_room ≤ length out)
   }
 
   pub finish-without : s.session.complete ≡ false → (out' : List ℕ) (k : ℕ) → Put 0 (t ++ count_line 0) out out' k
-      → FinishedBy s rows out rows out' (record { number = 0; bytes = k })
+      → FinishedBy s rows out rows out' (Ok k)
   unfolding finish_number
   finish-without c out' k p =
       let q = subst (λ (l : List ℕ). Put 0 (l ++ count_line 0) out out' k) e p in
@@ -99,16 +101,16 @@ module _ (s : Reading) (rows out : List ℕ) (room : finish_room ≤ length out)
 -- ---- the text's bytes are the buffer's first ones
 
 pub finished-within : (s : Reading) (rows out rows' out' : List ℕ) (r : Finished) → length out' ≡ length out
-    → FinishedBy s rows out rows' out' r → r.bytes ≤ length out'
-finished-within s rows out rows' out' r l f = ⊎_elim zero more (bool_cases (eqb r.number 0))
+    → FinishedBy s rows out rows' out' r → bytes_of r ≤ length out'
+finished-within s rows out rows' out' r l f = ⊎_elim zero more (bool_cases (eqb (answer_number r) 0))
   where
-    zero : eqb r.number 0 ≡ true → r.bytes ≤ length out'
+    zero : eqb (answer_number r) 0 ≡ true → bytes_of r ≤ length out'
     zero e = ⊎_elim with-report without (bool_cases s.session.complete)
       where
-        z : r.number ≡ 0
-        z = eqb-true r.number 0 e
+        z : answer_number r ≡ 0
+        z = eqb-true (answer_number r) 0 e
 
-        with-report : s.session.complete ≡ true → r.bytes ≤ length out'
+        with-report : s.session.complete ≡ true → bytes_of r ≤ length out'
         with-report c =
             let d = f.complete z c in
             let n = length (rest_text s) in
@@ -121,11 +123,11 @@ finished-within s rows out rows' out' r l f = ⊎_elim zero more (bool_cases (eq
               length-take n out',
             )
 
-        without : s.session.complete ≡ false → r.bytes ≤ length out'
+        without : s.session.complete ≡ false → bytes_of r ≤ length out'
         without c =
             let d = f.incomplete z c in
             let t = rest_text s ++ count_line 0 in
             omega (arith, d.bytes, ap length d.text, length-append t (drop (length t) out))
 
-    more : eqb r.number 0 ≡ false → r.bytes ≤ length out'
-    more e = let q = f.refused (eqb-false r.number 0 e) in omega (arith, q.1.1)
+    more : eqb (answer_number r) 0 ≡ false → bytes_of r ≤ length out'
+    more e = let q = f.refused (eqb-false (answer_number r) 0 e) in omega (arith, q.1.1)

@@ -11,6 +11,7 @@ use lib.Seq.{split_at, take_all, drop-drop}
 use Rattle.lists.specs.Members.{any, place_of}
 use Rattle.lists.proofs.Choice.{bool_cases}
 use Rattle.lists.proofs.Tally.{place_found, place_none, place_is}
+use Rattle.refusal.specs.Refusal.{answer_number}
 use Rattle.checks.specs.Stores.{Stores}
 use Rattle.lines.specs.Fields.{line_end}
 use Rattle.lines.proofs.Fields.{byte-there, byte-none, none_before}
@@ -100,7 +101,7 @@ module _ (s : Reading) (part out : List ℕ) (S : Stores) (read : Reading) (at f
     doing_step whole next U t more is ended e =
         let l = subst (λ (v : Reading). LineEnded v at now T next U t) is ended in
         let n = next_line line.lines in
-        let k = l.stepped.number in
+        let k = answer_number l.stepped in
         record {
           within = omega arith;
           place = ap (λ (n : ℕ). end + 1 + n) (e ∙ ap (place_of is_end) (lent-rest part (end + 1)));
@@ -121,9 +122,9 @@ module _ (s : Reading) (part out : List ℕ) (S : Stores) (read : Reading) (at f
 
   -- no line ends any more
   pub doing_end : length part ≤ end → (last : Reading) → last ≡ with_bytes read (take (length part - from) left)
-      → PartTaken s part out S now T (record { number = 0; reading = last; bytes = at })
+      → PartTaken s part out S now T (record { reading = last; bytes = at })
   doing_end h last is =
       let e = byte-none line_end left (place_of is_end left) refl (omega (arith, d.place, length-drop from part)) in
-      subst (λ (v : Reading). PartTaken s part out S now T (record { number = 0; reading = v; bytes = at }))
+      subst (λ (v : Reading). PartTaken s part out S now T (record { reading = v; bytes = at }))
       (sym (is ∙ ap (with_bytes read) (lent-rest part from)))
       (part-whole s part out S now T _ (d.rest now T _ (part_end read left at now T e)))

@@ -13,6 +13,7 @@ use Rattle.lists.specs.Choice.{pick}
 use Rattle.lists.specs.Members.{any}
 use Rattle.lists.proofs.Choice.{pick_same}
 use Rattle.lists.proofs.Members.{any_append}
+use Rattle.refusal.specs.Refusal.{answer_number}
 use Rattle.checks.specs.Stores.{Stores}
 use Rattle.lines.specs.Line.{line_of}
 use Rattle.lines.specs.declared.Line.{Line}
@@ -20,6 +21,7 @@ use Rattle.text_buffer.specs.Buffer.{written, Put}
 use Rattle.text_buffer.proofs.Writing.{written-more, put-none}
 use Rattle.refusal_text.specs.Refusals.{answer_text, refusal_room, next_line, line_count, refusals}
 use Rattle.refusal_text.proofs.Refusals.{answer-length}
+use Rattle.session.specs.Session.{stepped_to}
 use Rattle.stream.specs.Input.{is_end, in_front, finished_lines, unfinished, values_after, rest_after}
 use Rattle.stream.specs.Taking.{Steps, none, then, kept_most, blank_line, kept_bytes, onto, kept_after}
 use Rattle.stream.specs.Taking.{between_lines, with_bytes, LineEnded, PartTaken}
@@ -40,7 +42,7 @@ pub record PartAt (s : Reading) (part : List ℕ) (at : ℕ) (out : List ℕ) (S
 -- ---- the end of a part: no byte 10, so all of it is kept
 
 pub part_end : (s : Reading) (rest : List ℕ) (at : ℕ) (out : List ℕ) (S : Stores) → any is_end rest ≡ false
-    → PartAt s rest at out S out S (record { number = 0; reading = with_bytes s rest; bytes = at })
+    → PartAt s rest at out S out S (record { reading = with_bytes s rest; bytes = at })
 part_end s rest at out S e =
     let values : [] ≡ values_after (kept_bytes s) rest =
     ap (λ (ls : List (List ℕ)). map line_of (in_front (kept_bytes s) ls)) (sym (none-finished rest e)) in
@@ -155,9 +157,9 @@ module _ (s : Reading) (b : ℕ) (ys : List ℕ) (e : is_end b ≡ true) where
       (S' : Stores) (r : Taken) → at + refusal_room ≤ length out → LineEnded s at out S out₁ S₁ t
       → PartAt t.reading ys t.bytes out₁ S₁ out' S' r → PartAt s (b ∷ ys) at out S out' S' r
   part-line at out S out₁ S₁ t out' S' r room l p =
-      let k = l.stepped.number in
+      let k = answer_number l.stepped in
       let n = next_line s.lines in
-      let v = between_lines l.stepped.session n in
+      let v = between_lines (stepped_to s.session l.stepped) n in
       let q : PartAt v ys t.bytes out₁ S₁ out' S' r =
       subst (λ (u : Reading). PartAt u ys t.bytes out₁ S₁ out' S' r) l.reading p in
       let text = answer_text n k in

@@ -4,10 +4,10 @@ use Rattle.std.specs.Prelude.{true, false, List, [], ◌∷◌, ◌++◌, ◌≡
 use Rattle.lists.specs.Choice.{pick, refuse_if, first_of}
 use Rattle.refusal_text.specs.Refusals.{refusal_room, unfinished_text}
 use Rattle.report.specs.Text.{count_line}
-use Rattle.report.specs.Report.{text_room, report_number, ReportWritten}
-use Rattle.report.specs.declared.Reported.{Reported}
+use Rattle.refusal.specs.Refusal.{answer_number}
+use Rattle.report.specs.Report.{text_room, report_number, Reported, bytes_of, ReportWritten}
 use Rattle.session_plan.specs.Lanes.{plan_of, used_rows, wall_rows_most}
-use Rattle.text_end.specs.declared.Finished.{Finished}
+use Rattle.text_end.specs.Ending.{Finished}
 use Rattle.stream.specs.Taking.{kept_bytes, onto}
 use Rattle.stream.specs.declared.Reading.{Reading}
 
@@ -33,21 +33,21 @@ finish_number s rows room =
 -- the report of the words in use, into the text buffer from the place after the refusal on
 pub record ReportAfter (s : Reading) (rows out rows' out' : List ℕ) (r : Finished) : Type 0 where
   pub reported : Reported
-  pub number : reported.number ≡ 0
+  pub number : answer_number reported ≡ 0
   pub report : ReportWritten (plan_of s.session) (take (used_rows s.session) rows) (drop (length (rest_text s)) out)
       (take (used_rows s.session) rows') (drop (length (rest_text s)) out') reported
   pub beyond : drop (used_rows s.session) rows' ≡ drop (used_rows s.session) rows
   pub rest : take (length (rest_text s)) out' ≡ rest_text s
-  pub bytes : r.bytes ≡ length (rest_text s) + reported.bytes
+  pub bytes : bytes_of r ≡ length (rest_text s) + bytes_of reported
 
 -- "No complete plan: `rows,0`."
 pub record NoReport (s : Reading) (rows out rows' out' : List ℕ) (r : Finished) : Type 0 where
   pub store : rows' ≡ rows
   pub text : out' ≡ onto (rest_text s ++ count_line 0) out
-  pub bytes : r.bytes ≡ length (rest_text s ++ count_line 0)
+  pub bytes : bytes_of r ≡ length (rest_text s ++ count_line 0)
 
 pub record FinishedBy (s : Reading) (rows out rows' out' : List ℕ) (r : Finished) : Type 0 where
-  pub number : r.number ≡ finish_number s rows (length out)
-  pub refused : (r.number ≡ 0 → ⊥) → (rows' ≡ rows) × ((out' ≡ out) × (r.bytes ≡ 0))
-  pub complete : r.number ≡ 0 → s.session.complete ≡ true → ReportAfter s rows out rows' out' r
-  pub incomplete : r.number ≡ 0 → s.session.complete ≡ false → NoReport s rows out rows' out' r
+  pub number : answer_number r ≡ finish_number s rows (length out)
+  pub refused : (answer_number r ≡ 0 → ⊥) → (rows' ≡ rows) × ((out' ≡ out) × (bytes_of r ≡ 0))
+  pub complete : answer_number r ≡ 0 → s.session.complete ≡ true → ReportAfter s rows out rows' out' r
+  pub incomplete : answer_number r ≡ 0 → s.session.complete ≡ false → NoReport s rows out rows' out' r

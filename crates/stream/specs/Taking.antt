@@ -2,6 +2,7 @@
 -- by the steps that the lines make (`session::step`'s own promise), since the stores after a line are only related to
 -- those before it.
 use Rattle.std.specs.Prelude.{◌||◌, List, [], ◌∷◌, ◌++◌, ◌≡◌, ℕ, ◌+◌, ◌*◌, ltb, length, take, drop, replicate}
+use Rattle.std.specs.Prelude.{Result, Ok, Err}
 use Rattle.lists.specs.Choice.{pick, refuse_if}
 use Rattle.lists.specs.Members.{any}
 use Rattle.checks.specs.Stores.{Stores}
@@ -11,8 +12,9 @@ use Rattle.text_buffer.specs.Buffer.{Put}
 use Rattle.refusal_text.specs.Refusals.{answer_text, refusal_room, next_line, line_count, refusals}
 use Rattle.session_plan.specs.Lanes.{fresh}
 use Rattle.session_plan.specs.declared.Session.{Session}
-use Rattle.session.specs.Session.{SteppedBy}
-use Rattle.session.specs.declared.Stepped.{Stepped}
+use Rattle.refusal.specs.Refusal.{answer_number}
+use Rattle.refusal.specs.declared.Refusal.{Refusal}
+use Rattle.session.specs.Session.{Stepped, stepped_to, SteppedBy}
 use Rattle.stream.specs.Input.{is_end, values_after, rest_after}
 use Rattle.stream.specs.declared.Reading.{Reading}
 use Rattle.stream.specs.declared.Taken.{Taken}
@@ -22,8 +24,8 @@ use Rattle.stream.specs.declared.Taken.{Taken}
 pub data Steps : Session → Stores → List Line → List ℕ → Session → Stores → Type 0 where
   none : {s : Session} {S : Stores} → Steps s S [] [] s S
   then : {s s' : Session} {S S' S'' : Stores} {line : Line} {lines : List Line} {ns : List ℕ} {r : Stepped}
-      → SteppedBy s line S S' r → Steps r.session S' lines ns s' S''
-      → Steps s S (line ∷ lines) (r.number ∷ ns) s' S''
+      → SteppedBy s line S S' r → Steps (stepped_to s r) S' lines ns s' S''
+      → Steps s S (line ∷ lines) (answer_number r ∷ ns) s' S''
 
 -- ---- a reading
 
@@ -72,11 +74,17 @@ pub record PartTaken (s : Reading) (part out : List ℕ) (S : Stores) (out' : Li
   pub text : out' ≡ onto (refusals s.lines numbers) out
   pub bytes : r.bytes ≡ length (refusals s.lines numbers)
 
-pub record TakenBy (s : Reading) (part out : List ℕ) (S : Stores) (out' : List ℕ) (S' : Stores) (r : Taken)
-    : Type 0 where
-  pub number : r.number ≡ take_number s (length part) (length out)
-  pub refused : (r.number ≡ 0 → ⊥) → (r.reading ≡ s) × ((r.bytes ≡ 0) × ((out' ≡ out) × (S' ≡ S)))
-  pub accepted : r.number ≡ 0 → PartTaken s part out S out' S' r
+-- the reading after a part and the bytes of its text: a part that is refused leaves the reading, and there is no text
+abbrev pub taken_of : Reading → Result Taken Refusal → Taken
+taken_of s (Ok taken) = taken
+taken_of s (Err refusal) = record { reading = s; bytes = 0 }
+
+pub record TakenBy (s : Reading) (part out : List ℕ) (S : Stores) (out' : List ℕ) (S' : Stores)
+    (r : Result Taken Refusal) : Type 0 where
+  pub number : answer_number r ≡ take_number s (length part) (length out)
+  pub refused : (answer_number r ≡ 0 → ⊥)
+      → ((taken_of s r).reading ≡ s) × (((taken_of s r).bytes ≡ 0) × ((out' ≡ out) × (S' ≡ S)))
+  pub accepted : answer_number r ≡ 0 → PartTaken s part out S out' S' (taken_of s r)
 
 -- ---- what the private steps promise one another
 
@@ -91,6 +99,5 @@ pub record LineEnded (s : Reading) (at : ℕ) (out : List ℕ) (S : Stores) (out
     : Type 0 where
   pub stepped : Stepped
   pub step : SteppedBy s.session (line_of (kept_bytes s)) S S' stepped
-  pub number : r.number ≡ 0
-  pub reading : r.reading ≡ between_lines stepped.session (next_line s.lines)
-  pub text : Put at (answer_text (next_line s.lines) stepped.number) out out' r.bytes
+  pub reading : r.reading ≡ between_lines (stepped_to s.session stepped) (next_line s.lines)
+  pub text : Put at (answer_text (next_line s.lines) (answer_number stepped)) out out' r.bytes

@@ -8,13 +8,14 @@
 // steps; each byte is compared once, and copied once where it is kept.
 #![tactic(auto)]
 
-ghost use Rattle.std.specs.Prelude.{◌≡◌, ◌+◌, ◌-◌, ◌*◌, ◌≤◌, min, length};
+ghost use Rattle.std.specs.Prelude.{◌≡◌, ◌+◌, ◌*◌, ◌≤◌, length};
 ghost use Rattle.checks.specs.Stores.{stores};
 ghost use Rattle.refusal_text.specs.Refusals.{refusal_room};
 ghost use Rattle.stream.specs.Taking.{kept_most, between_lines, at_start, with_bytes, LineEnded, PartTaken, TakenBy};
 ghost use Rattle.stream.specs.Finishing.{FinishedBy};
 
 use lines::{LINE_END, LINE_LENGTH};
+use refusal::Refusal;
 use refusal_text::REFUSAL_BYTES;
 use report::{HEAD_BYTES, ROW_BYTES};
 use session_plan::{PARTITIONS, ROWS, Session};
@@ -29,7 +30,8 @@ pub const FINISH_BYTES: usize = REFUSAL_BYTES
     + HEAD_BYTES
     + ROW_BYTES * (PARTITIONS * ROWS) as usize;
 
-// What was read: the session after the finished lines, how many they are, and the first bytes of the next one.
+// What was read: the session after the finished lines, how many they are, and the first bytes of the next one. Bytes and
+// a count, since there is no heap.
 #[derive(Clone, Copy)]
 pub struct Reading {
     pub session: Session,
@@ -38,10 +40,9 @@ pub struct Reading {
     pub line: [u8; KEPT_BYTES],
 }
 
-// What a part gets: the refusal number (0: taken), the reading after it, and how many bytes of text there are.
+// What a part gets that is taken: the reading after it, and how many bytes of text there are.
 #[derive(Clone, Copy)]
 pub struct Taken {
-    pub number: u64,
     pub reading: Reading,
     pub bytes: usize,
 }
@@ -65,33 +66,19 @@ pub fn start() -> Reading
     between_lines(session_plan::start(), 0)
 }
 
-// Of `len` more bytes those that there is room for after the kept ones.
-fn room_for(kept: usize, len: usize) -> usize
-    requires { kept ≤ kept_most }
-    ensures { result ≡ min (kept_most - kept) len }
-{
-    let room = KEPT_BYTES - kept;
-    if len < room {
-        return len;
-    }
-    room
-}
-
 // The reading with more bytes of its unfinished line, kept as far as there is room.
 fn keep(s: Reading, bytes: &[u8]) -> Reading
     requires { s.kept ≤ kept_most }
     ensures { result ≡ with_bytes s bytes.now }
 {
-    let session = s.session;
     let kept = s.kept;
     let mut line = s.line;
-    let n = room_for(kept, bytes.len());
+    let n = (KEPT_BYTES - kept).min(bytes.len());
     put_bytes(&mut line, kept, &bytes[..n]);
     Reading {
-        session,
-        lines: s.lines,
         kept: kept + n,
         line,
+        ..s
     }
 }
 
@@ -114,15 +101,10 @@ fn end_line(
     let kept = s.kept;
     let line = s.line;
     let stepped = session::step(before, &line[..kept], outer, inner, rows);
-    let session = stepped.session;
     let lines = refusal_text::next_line(s.lines);
-    let bytes = refusal_text::put_answer(out, at, lines, stepped.number);
-    let reading = between_lines(session, lines);
-    Taken {
-        number: 0,
-        reading,
-        bytes,
-    }
+    let bytes = refusal_text::put_answer(out, at, lines, stepped);
+    let reading = between_lines(stepped.unwrap_or(before), lines);
+    Taken { reading, bytes }
 }
 
 // The lines that a part finishes, one after the other, and what is kept of the next one.
@@ -136,8 +118,7 @@ fn take_lines(
 ) -> Taken
     requires kept_le_kept_most { s.kept ≤ kept_most }
     requires part_in_bounds { refusal_room * length part.now ≤ length out.old }
-    ensures number_value { result.number ≡ 0 }
-    ensures part_taken { PartTaken s part.now
+    ensures { PartTaken s part.now
         out.old (stores outer.old inner.old rows.old)
         out.new (stores outer.new inner.new rows.new) result }
 {
@@ -145,6 +126,7 @@ fn take_lines(
     let mut at: usize = 0;
     let mut from: usize = 0;
     let mut end = lines::place_of(part, LINE_END);
+    // From one line end to the next: no counter bounds it.
     while end < part.len() {
         let whole = keep(read, &part[from..end]);
         let taken = end_line(whole, outer, inner, rows, out, at);
@@ -155,11 +137,7 @@ fn take_lines(
         end = from + lines::place_of(&part[from..], LINE_END);
     }
     let reading = keep(read, &part[from..]);
-    Taken {
-        number: 0,
-        reading,
-        bytes: at,
-    }
+    Taken { reading, bytes: at }
 }
 
 // A part of the input: the refusals of the lines that it finishes, as text in `out`.
@@ -170,27 +148,19 @@ pub fn take(
     inner: &mut [u64],
     rows: &mut [u64],
     out: &mut [u8],
-) -> Taken
+) -> Result<Taken, Refusal>
     ensures { TakenBy s part.now
         out.old (stores outer.old inner.old rows.old)
         out.new (stores outer.new inner.new rows.new) result }
 {
     let kept = s.kept;
     if KEPT_BYTES < kept {
-        return Taken {
-            number: 4,
-            reading: s,
-            bytes: 0,
-        };
+        return Err(Refusal::Length);
     }
     if out.len() / REFUSAL_BYTES < part.len() {
-        return Taken {
-            number: 4,
-            reading: s,
-            bytes: 0,
-        };
+        return Err(Refusal::Length);
     }
-    take_lines(s, part, outer, inner, rows, out)
+    Ok(take_lines(s, part, outer, inner, rows, out))
 }
 
 // The end of the input: the refusal of an unfinished last line and the report, as text in `out`.
@@ -199,17 +169,14 @@ pub fn finish(s: Reading, rows: &mut [u64], out: &mut [u8]) -> Finished
         rows.old out.old rows.new out.new result }
 {
     if out.len() < FINISH_BYTES {
-        return Finished {
-            number: 4,
-            bytes: 0,
-        };
+        return Err(Refusal::Length);
     }
+    // Bytes and a count, since there is no heap.
     let mut rest = [0u8; REFUSAL_BYTES];
     let n = text_end::put_rest(s.lines, s.kept, &mut rest);
     let session = s.session;
     if session.complete {
         return text_end::finish_report(session, &rest[..n], rows, out);
     }
-    let bytes = text_end::finish_plain(&rest[..n], out);
-    Finished { number: 0, bytes }
+    Ok(text_end::finish_plain(&rest[..n], out))
 }

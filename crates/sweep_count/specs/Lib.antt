@@ -3,3 +3,4 @@ pub mod Pairs
 pub mod Partition
 pub mod Size
 pub mod Space
+pub mod Required

@@ -12,13 +12,9 @@ pub fn put_bytes(out: &mut [u8], at: usize, bytes: &[u8]) -> usize
     requires { at + length bytes.now ≤ length out.old }
     ensures { Put at bytes.now out.old out.new result }
 {
-    let n = bytes.len();
-    let mut i: usize = 0;
-    while i < n {
-        out[at + i] = bytes[i];
-        i += 1;
-    }
-    at + n
+    let end = at + bytes.len();
+    out[at..end].copy_from_slice(bytes);
+    end
 }
 
 // Puts a number's digits and the byte after them.
@@ -31,6 +27,7 @@ pub fn put_number(out: &mut [u8], at: usize, n: u64, after: u8) -> usize
     digits[19] = 48 + (n % 10) as u8;
     let mut left = n / 10;
     let mut i: usize = 19;
+    // By division until nothing is left: no counter bounds it.
     while left != 0 {
         i -= 1;
         digits[i] = 48 + (left % 10) as u8;

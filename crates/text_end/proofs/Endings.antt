@@ -9,15 +9,18 @@ use native.Mathlib.Omega.{arith}
 use lib.ListN.{length, take, drop, length-drop, drop_of_length-le}
 use lib.Seq.{take_all, drop_at, length-take-le, take-append_seam, drop-append_seam}
 use borrow.Rule.Slice.PartMut.{mid_of, put_mid, put_same}
+use Rattle.std.specs.Prelude.{Ok, Err}
+use Rattle.refusal.specs.Refusal.{number, answer_number}
+use Rattle.refusal.specs.declared.Refusal.{Refusal}
+use Rattle.refusal.proofs.Answering.{number-above}
 use Rattle.plan.specs.declared.Partitioning.{Partitioning}
 use Rattle.text_buffer.specs.Buffer.{Put}
 use Rattle.refusal_text.specs.Refusals.{unfinished_text}
-use Rattle.report.specs.Report.{ReportWritten}
-use Rattle.report.specs.declared.Reported.{Reported}
+use Rattle.report.specs.Report.{Reported, bytes_of, ReportWritten}
 use Rattle.session_plan.specs.Lanes.{plan_of, used_rows}
 use Rattle.session_plan.specs.declared.Session.{Session}
 use Rattle.session_plan.proofs.Words.{lent-used, back-used, back-left, back-same}
-use Rattle.text_end.specs.Ending.{rest_refusal, ReportEnded}
+use Rattle.text_end.specs.Ending.{rest_refusal, Finished, ReportEnded}
 
 -- ---- the refusal of the bytes kept, of a line with room for some
 
@@ -67,33 +70,36 @@ module _ (s : Session) (u : ℕ) (rest rows out rows₁ out₁ : List ℕ) (p : 
       ReportWritten q (take u rows) (mid_of (length rest) (length out - length rest) out) rows₁ out₁ w)
       e h))))
 
-  pub ended-refused : (w.number ≡ 0 → ⊥)
-      → ReportEnded s rest rows out (rows₁ ++ drop u rows) (put_mid (length rest) (length out - length rest) out out₁)
-      (record { number = w.number; bytes = 0 })
-  ended-refused ne = record {
-    reported = w;
-    report =
-        report-is _
-        (ap (drop (length rest)) put_is
-        ∙ drop_at (take (length rest) out) out₁ (length rest) (length-take-le (length rest) out room));
-    number = refl;
-    refused = λ _. (
-      back-same u rows rows₁ (h.refused ne).0,
-      (
-        ap (put_mid (length rest) (length out - length rest) out) (h.refused ne).1.0
-            ∙ put_same (length rest) (length out - length rest) out,
-        refl,
-      ),
-    );
-    beyond = back-left (used_rows s) u rows z rows₁ lr;
-    start = λ q. absurd (ne q);
-    bytes = λ q. absurd (ne q);
-  }
+  pub ended-refused : (refusal : Refusal) → w ≡ Err refusal → (r : Finished) → answer_number r ≡ number refusal
+      → ReportEnded s rest rows out (rows₁ ++ drop u rows) (put_mid (length rest) (length out - length rest) out out₁) r
+  ended-refused refusal is (Ok bytes) e = absurd (number-above refusal (sym e))
+  ended-refused refusal is (Err other) e =
+      let same : answer_number w ≡ number refusal = ap answer_number is in
+      let ne : answer_number w ≡ 0 → ⊥ = λ q. number-above refusal (sym same ∙ q) in
+      record {
+        reported = w;
+        report =
+            report-is _
+            (ap (drop (length rest)) put_is
+            ∙ drop_at (take (length rest) out) out₁ (length rest) (length-take-le (length rest) out room));
+        number = e ∙ sym same;
+        refused = λ _. (
+          back-same u rows rows₁ (h.refused ne).0,
+          (
+            ap (put_mid (length rest) (length out - length rest) out) (h.refused ne).1.0
+                ∙ put_same (length rest) (length out - length rest) out,
+            refl,
+          ),
+        );
+        beyond = back-left (used_rows s) u rows z rows₁ lr;
+        start = λ q. absurd (number-above other q);
+        bytes = λ q. absurd (number-above other q);
+      }
 
-  pub ended-written : w.number ≡ 0 → (out' : List ℕ) (k : ℕ)
+  pub ended-written : (bytes : ℕ) → w ≡ Ok bytes → (out' : List ℕ) (k : ℕ)
       → Put 0 rest (put_mid (length rest) (length out - length rest) out out₁) out' k
-      → ReportEnded s rest rows out (rows₁ ++ drop u rows) out' (record { number = 0; bytes = length rest + w.bytes })
-  ended-written q out' k put =
+      → ReportEnded s rest rows out (rows₁ ++ drop u rows) out' (Ok (length rest + bytes))
+  ended-written bytes q out' k put =
       let is : out' ≡ rest ++ out₁ =
       put.holds
       ∙ ap (λ (n : ℕ). rest ++ drop n (put_mid (length rest) (length out - length rest) out out₁))
@@ -104,13 +110,19 @@ module _ (s : Session) (u : ℕ) (rest rows out rows₁ out₁ : List ℕ) (p : 
       record {
         reported = w;
         report = report-is out' (ap (drop (length rest)) is ∙ drop-append_seam rest out₁);
-        number = sym q;
+        number = sym (ap answer_number q);
         refused = λ ne. absurd (ne refl);
         beyond = back-left (used_rows s) u rows z rows₁ lr;
         start = λ _. ap (take (length rest)) is ∙ take-append_seam rest out₁;
-        bytes = λ _. refl;
+        bytes = λ _. ap (λ (n : ℕ). length rest + n) (sym (ap bytes_of q));
       }
 
-  pub ended-fits : w.number ≡ 0 → length rest + w.bytes ≤ length out
-  ended-fits q =
-      omega (arith, (h.written q).within, ap length mid-is, length-drop (length rest) out)
+  pub ended-fits : (bytes : ℕ) → w ≡ Ok bytes → length rest + bytes ≤ length out
+  ended-fits bytes q =
+      omega (
+        arith,
+        (h.written (ap answer_number q)).within,
+        ap bytes_of q,
+        ap length mid-is,
+        length-drop (length rest) out,
+      )

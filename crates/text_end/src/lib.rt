@@ -10,15 +10,12 @@ ghost use Rattle.refusal_text.specs.Refusals.{refusal_room};
 ghost use Rattle.report.specs.Text.{count_line};
 ghost use Rattle.text_end.specs.Ending.{rest_refusal, ReportEnded};
 
+use refusal::Refusal;
 use session_plan::Session;
 use text_buffer::put_bytes;
 
-// What the end of the input gets: the refusal number (0: accepted) and how many bytes of text there are.
-#[derive(Clone, Copy)]
-pub struct Finished {
-    pub number: u64,
-    pub bytes: usize,
-}
+// What the end of the input gets: how many bytes of text there are, or the refusal that applies first.
+pub type Finished = Result<usize, Refusal>;
 
 // Puts the refusal of an unfinished last line, after `lines` lines; nothing where no byte of it is kept.
 pub fn put_rest(lines: u64, kept: usize, rest: &mut [u8]) -> usize
@@ -29,7 +26,7 @@ pub fn put_rest(lines: u64, kept: usize, rest: &mut [u8]) -> usize
         return 0;
     }
     let line = refusal_text::next_line(lines);
-    refusal_text::put_refusal(rest, 0, line, lines::MALFORMED)
+    refusal_text::put_refusal(rest, 0, line, Refusal::Malformed.into())
 }
 
 // The end of the input without a complete plan: the refusal, and `rows,0`.
@@ -50,16 +47,7 @@ pub fn finish_report(s: Session, rest: &[u8], rows: &mut [u64], out: &mut [u8]) 
     let p = session_plan::plan_of(s);
     let used = session_plan::used_rows(s, rows.len());
     let n = rest.len();
-    let written = report::write(p, &mut rows[..used], &mut out[n..]);
-    if written.number != 0 {
-        return Finished {
-            number: written.number,
-            bytes: 0,
-        };
-    }
+    let bytes = report::write(p, &mut rows[..used], &mut out[n..])?;
     put_bytes(out, 0, rest);
-    Finished {
-        number: 0,
-        bytes: n + written.bytes,
-    }
+    Ok(n + bytes)
 }

@@ -11,6 +11,7 @@ use Prim.Native.Nat.{ℕ}
 use native.Mathlib.Omega.{arith}
 use lib.Dec.{eqb}
 use borrow.Author.Tests.{eqb-true, eqb-false, eq-eqb, not-false}
+use Rattle.std.specs.Prelude.{Ok}
 use Rattle.lists.specs.Choice.{pick, refuse_if}
 use Rattle.lists.proofs.Choice.{bool_cases, first-none, refuse-none, pick_true}
 use Rattle.interval.specs.Time.{calendar_end}
@@ -19,7 +20,8 @@ use Rattle.interval.specs.declared.tuple.Tuple.{Tuple}
 use Rattle.plan.specs.declared.Partitioning.{Partitioning}
 use Rattle.checks.specs.Stores.{Stores, open_number}
 use Rattle.join.specs.Opening.{Opened}
-use Rattle.checks.specs.declared.Answer.{Answer}
+use Rattle.refusal.specs.Refusal.{answer_number}
+use Rattle.checks.specs.Answer.{Answer}
 use Rattle.history.specs.Machine.{Call, Told, Machine, told, machine_after}
 use Rattle.history.specs.Runs.{Step, inserted, deleted}
 use Rattle.history.specs.KeptCurrent.{Untouched, Owed}
@@ -34,8 +36,8 @@ use Rattle.session_plan.specs.Lanes.{fresh, plan_of, with_lane, with_minimum, la
 use Rattle.session_plan.specs.declared.Session.{Session}
 use Rattle.session_plan.proofs.Lanes.{lane-passed, least-passed}
 use Rattle.session_plan.proofs.Plans.{Good, plan-legal}
-use Rattle.session.specs.Session.{wall_of, lane_number, Called, change_line_number, WallChanged, LaneTaken, SteppedBy}
-use Rattle.session.specs.declared.Stepped.{Stepped}
+use Rattle.session.specs.Session.{wall_of, lane_number, Called, change_line_number, WallChanged, LaneTaken}
+use Rattle.session.specs.Session.{Stepped, stepped_to, SteppedBy}
 use Rattle.session.proofs.Steps.{after-accepted}
 use Rattle.session.proofs.Reached.{Reached, good-after, reached-good, begun as reached-start, then as reached-next}
 use Rattle.transcript.specs.Transcript.{call_of, heard, Transcript, begun, then}
@@ -100,7 +102,7 @@ change-complete s w t S z =
 -- and on a wall that holds what a machine holds, it leaves what the machine makes of it, and its frame
 module _ (s : Session) (w : Word) (t : Tuple) (S S' : Stores) (m : Machine) (k : Kept m (plan_of s) (wall_of s S))
     (c : WallChanged s w t S S') where
-  pub change-done : Done m (plan_of s) (wall_of s S) (call_of w t) c.answer.number (plan_of s) (wall_of s S')
+  pub change-done : Done m (plan_of s) (wall_of s S) (call_of w t) (answer_number c.answer) (plan_of s) (wall_of s S')
   change-done = step-done m k (called-step w (plan_of s) t (wall_of s S) (wall_of s S') c.answer c.wall)
 
   pub change-frame : Untouched (plan_of s) t (wall_of s S).rows (wall_of s S').rows
@@ -113,7 +115,7 @@ module _ (s : Session) (w : Word) (t : Tuple) (S S' : Stores) (ts : List Told) (
   change-kept c e n z =
       let k = h.late e in
       let d = change-done s w t S S' k.0 k.2 c in
-      let same : n ≡ c.answer.number = z ∙ sym c.number in (
+      let same : n ≡ answer_number c.answer = z ∙ sym c.number in (
         d.after,
         machine-next (plan_of s) (record { call = call_of w t; number = n }) ts k.0 d.after k.1
             (ap (λ (i : ℕ). told (record { call = call_of w t; number = i }) k.0) same ∙ d.machine),
@@ -121,27 +123,28 @@ module _ (s : Session) (w : Word) (t : Tuple) (S S' : Stores) (ts : List Told) (
       )
 
   holding-change : (r : Stepped) → SteppedBy s (Change w t) S S' r
-      → Holding (record { call = call_of w t; number = r.number } ∷ ts) r.session S'
-  holding-change r b = ⊎_elim accepted refused (bool_cases (eqb r.number 0))
+      → Holding (record { call = call_of w t; number = answer_number r } ∷ ts) (stepped_to s r) S'
+  holding-change r b = ⊎_elim accepted refused (bool_cases (eqb (answer_number r) 0))
     where
       Goal : Type 0
-      Goal = Holding (record { call = call_of w t; number = r.number } ∷ ts) r.session S'
+      Goal = Holding (record { call = call_of w t; number = answer_number r } ∷ ts) (stepped_to s r) S'
 
-      accepted : eqb r.number 0 ≡ true → Goal
+      accepted : eqb (answer_number r) 0 ≡ true → Goal
       accepted e =
-          let z = eqb-true r.number 0 e in
+          let z = eqb-true (answer_number r) 0 e in
           let n = sym b.number ∙ z in
-          let is : r.session ≡ s = b.session ∙ after-accepted s (Change w t) S n in
+          let is : stepped_to s r ≡ s = b.session ∙ after-accepted s (Change w t) S n in
           rw is
           (record {
             early = λ u. absurd (true≢false (sym (change-complete s w t S n) ∙ u));
-            late = λ c. change-kept (b.accepted z) c r.number z;
+            late = λ c. change-kept (b.accepted z) c (answer_number r) z;
           })
 
-      refused : eqb r.number 0 ≡ false → Goal
+      refused : eqb (answer_number r) 0 ≡ false → Goal
       refused e =
-          let ne = eqb-false r.number 0 e in
-          holding-same _ s r.session S S' (holding-told (call_of w t) r.number ts s S ne h) (b.refused ne)
+          let ne = eqb-false (answer_number r) 0 e in
+          holding-same _ s (stepped_to s r) S S' (holding-told (call_of w t) (answer_number r) ts s S ne h)
+          (b.refused ne)
 
 -- ---- a `least` line
 
@@ -152,17 +155,17 @@ module _ (s : Session) (n : ℕ) (S S' : Stores) (ts : List Told) (h : Holding t
       let u = (least-passed s n z).0 in
       record { early = λ _. h.early u; late = λ c. absurd (true≢false (sym c ∙ u)) }
 
-  holding-least : (r : Stepped) → SteppedBy s (Least n) S S' r → Holding ts r.session S'
-  holding-least r b = ⊎_elim accepted refused (bool_cases (eqb r.number 0))
+  holding-least : (r : Stepped) → SteppedBy s (Least n) S S' r → Holding ts (stepped_to s r) S'
+  holding-least r b = ⊎_elim accepted refused (bool_cases (eqb (answer_number r) 0))
     where
-      accepted : eqb r.number 0 ≡ true → Holding ts r.session S'
+      accepted : eqb (answer_number r) 0 ≡ true → Holding ts (stepped_to s r) S'
       accepted e =
-          let z = sym b.number ∙ eqb-true r.number 0 e in
-          let is : r.session ≡ with_minimum s n = b.session ∙ after-accepted s (Least n) S z in
+          let z = sym b.number ∙ eqb-true (answer_number r) 0 e in
+          let is : stepped_to s r ≡ with_minimum s n = b.session ∙ after-accepted s (Least n) S z in
           rw is (holding-with z)
 
-      refused : eqb r.number 0 ≡ false → Holding ts r.session S'
-      refused e = holding-same ts s r.session S S' h (b.refused (eqb-false r.number 0 e))
+      refused : eqb (answer_number r) 0 ≡ false → Holding ts (stepped_to s r) S'
+      refused e = holding-same ts s (stepped_to s r) S S' h (b.refused (eqb-false (answer_number r) 0 e))
 
 -- ---- a lane line
 
@@ -188,7 +191,7 @@ module _ (s : Session) (m : Chronon) (S : Stores) (z : lane_number s m S ≡ 0) 
   blank-kept S' g taken e =
       let v = with_lane s m in
       let good = lane-after g in
-      let a : Answer = record { number = 0; changed = 0; examined = 0 } in
+      let a : Answer = Ok (record { changed = 0; examined = 0 }) in
       let o : Opened (plan_of v) (wall_of v S) (wall_of v S') a = record {
         number = sym (opens e);
         changed = refl;
@@ -209,28 +212,28 @@ module _ (s : Session) (m : Chronon) (S S' : Stores) (ts : List Told) (g : Good 
         late = λ c. (first p, before p, blank-kept s m S z S' g taken (eqb-true m.0 calendar_end c));
       }
 
-  holding-lane : (r : Stepped) → SteppedBy s (Lane m) S S' r → Holding ts r.session S'
-  holding-lane r b = ⊎_elim accepted refused (bool_cases (eqb r.number 0))
+  holding-lane : (r : Stepped) → SteppedBy s (Lane m) S S' r → Holding ts (stepped_to s r) S'
+  holding-lane r b = ⊎_elim accepted refused (bool_cases (eqb (answer_number r) 0))
     where
-      accepted : eqb r.number 0 ≡ true → Holding ts r.session S'
+      accepted : eqb (answer_number r) 0 ≡ true → Holding ts (stepped_to s r) S'
       accepted e =
-          let z = eqb-true r.number 0 e in
+          let z = eqb-true (answer_number r) 0 e in
           let n = sym b.number ∙ z in
-          let is : r.session ≡ with_lane s m = b.session ∙ after-accepted s (Lane m) S n in
+          let is : stepped_to s r ≡ with_lane s m = b.session ∙ after-accepted s (Lane m) S n in
           rw is (holding-taken n (b.accepted z))
 
-      refused : eqb r.number 0 ≡ false → Holding ts r.session S'
-      refused e = holding-same ts s r.session S S' h (b.refused (eqb-false r.number 0 e))
+      refused : eqb (answer_number r) 0 ≡ false → Holding ts (stepped_to s r) S'
+      refused e = holding-same ts s (stepped_to s r) S S' h (b.refused (eqb-false (answer_number r) 0 e))
 
 -- ---- every transcript
 
 holding-step : (s : Session) (line : Line) (S S' : Stores) (ts : List Told) (r : Stepped) → Good s → Holding ts s S
-    → SteppedBy s line S S' r → Holding (heard line r.number ts) r.session S'
+    → SteppedBy s line S S' r → Holding (heard line (answer_number r) ts) (stepped_to s r) S'
 holding-step s (Lane m) S S' ts r g h b = holding-lane s m S S' ts g h r b
 holding-step s (Least n) S S' ts r g h b = holding-least s n S S' ts h r b
 holding-step s (Change w t) S S' ts r g h b = holding-change s w t S S' ts h r b
 holding-step s Malformed S S' ts r g h b =
-    holding-same ts s r.session S S' h (b.refused (λ z. absurd (omega (arith, b.number))))
+    holding-same ts s (stepped_to s r) S S' h (b.refused (λ z. absurd (omega (arith, b.number))))
 
 -- the session and the stores are among those that steps reach
 pub reached : {S₀ : Stores} {ns : List ℕ} {ts : List Told} {s : Session} {S : Stores} → Transcript S₀ ns ts s S

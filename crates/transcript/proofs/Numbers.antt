@@ -14,6 +14,7 @@ use Rattle.interval.specs.declared.tuple.Tuple.{Tuple}
 use Rattle.plan.specs.declared.Partitioning.{Partitioning}
 use Rattle.rows.specs.declared.Side.{Side}
 use Rattle.rows.specs.declared.Side.TheVariants.{Outer, Inner}
+use Rattle.refusal.specs.Refusal.{answer_number}
 use Rattle.checks.specs.Stores.{Stores}
 use Rattle.history.specs.Machine.{Told, Machine}
 use Rattle.history.specs.Answering.{partition_full, rows_pass, none_equal, insert_answer, delete_answer}
@@ -84,7 +85,7 @@ pub all-met : {S₀ : Stores} {ns : List ℕ} {ts : List Told} {s : Session} {S 
     → Transcript S₀ ns ts s S → all is_met ns ≡ true
 all-met y begun = refl
 all-met {S₀ = S₀} y (then {ns = ns} {ts = ts} {s = s} {S = S} {r = r} bytes x b) =
-    and_both (is_met r.number) (all is_met ns)
+    and_both (is_met (answer_number r)) (all is_met ns)
     (ap is_met b.number
     ∙ line-is s (line_of bytes) S ts (reached-good (reached x)) (eight-partitions-as S₀ S (reached-long (reached x)) y)
     (bounded bytes) (holding x))

@@ -8,20 +8,19 @@ use mathlib.Core.Path.{◌≡◌, sym, ◌∙◌, ap}
 use Prim.Native.Nat.{ℕ, ◌≤◌}
 use lib.ListN.{length, drop}
 use Rattle.rows.specs.Join.{join_of}
+use Rattle.refusal.specs.Refusal.{answer_number}
 use Rattle.checks.specs.Stores.{Stores}
 use Rattle.history.specs.Machine.{Told, Machine, machine_after}
 use Rattle.history.proofs.Kept.{Kept, kept-current-now}
 use Rattle.report.specs.Text.{text_of}
-use Rattle.report.specs.Report.{text_room, ReportWritten}
-use Rattle.report.specs.declared.Reported.{Reported}
+use Rattle.report.specs.Report.{text_room, Reported, ReportWritten}
 use Rattle.lines.specs.Line.{line_of}
 use Rattle.lines.specs.declared.Line.{Line}
 use Rattle.lines.specs.declared.Line.TheVariants.{Lane, Least, Change, Malformed}
 use Rattle.session_plan.specs.Lanes.{wall_rows_most, plan_of}
 use Rattle.session_plan.specs.declared.Session.{Session}
 use Rattle.session_plan.proofs.Plans.{Good}
-use Rattle.session.specs.Session.{wall_of, SteppedBy}
-use Rattle.session.specs.declared.Stepped.{Stepped}
+use Rattle.session.specs.Session.{wall_of, Stepped, SteppedBy}
 use Rattle.session.proofs.Reached.{reached-good}
 use Rattle.transcript.specs.Transcript.{Transcript, begun, then}
 use Rattle.transcript.specs.Rows.{printed_rows}
@@ -34,7 +33,7 @@ use Rattle.transcript.proofs.Printing.{join-within, text-is}
 -- ---- the frames
 
 line-framed : (s : Session) (line : Line) (S S' : Stores) (ts : List Told) (r : Stepped) → Holding ts s S
-    → SteppedBy s line S S' r → Framed s line r.number S S'
+    → SteppedBy s line S S' r → Framed s line (answer_number r) S S'
 line-framed s (Lane m) S S' ts r h b = tt
 line-framed s (Least minimum) S S' ts r h b = tt
 line-framed s (Change w t) S S' ts r h b =
@@ -63,7 +62,7 @@ pub rows-printed : (m : Machine) (s : Session) (S : Stores) → Good s → Kept 
     → (out rows' out' : List ℕ) (r : Reported) → ReportWritten (plan_of s) (wall_of s S).rows out rows' out' r
     → text_room wall_rows_most ≤ length out → Printed (plan_of s) (join_of s.minimum m.outer m.inner) out out' r
 rows-printed m s S g k out rows' out' r w h =
-    let z : r.number ≡ 0 = w.number ∙ report-accepted m s S g k (length out) h in
+    let z : answer_number r ≡ 0 = w.number ∙ report-accepted m s S g k (length out) h in
     let e : text_of (plan_of s) rows' ≡ printed_rows (plan_of s) (join_of s.minimum m.outer m.inner) =
     text-is (plan_of s) (wall_of s S).rows rows' (join_of s.minimum m.outer m.inner) k.rows
     (join-within (plan_of s) (wall_of s S).inner m.outer m.inner k.inner) (w.store z) in

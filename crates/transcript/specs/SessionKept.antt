@@ -9,8 +9,8 @@ use Rattle.rows.specs.Join.{join_of}
 use Rattle.checks.specs.Stores.{Stores}
 use Rattle.history.specs.Machine.{Told, Machine, machine_after}
 use Rattle.history.specs.KeptCurrent.{Current, Untouched}
-use Rattle.report.specs.Report.{text_room, report_number, ReportWritten}
-use Rattle.report.specs.declared.Reported.{Reported}
+use Rattle.refusal.specs.Refusal.{answer_number}
+use Rattle.report.specs.Report.{text_room, report_number, Reported, bytes_of, ReportWritten}
 use Rattle.lines.specs.Line.{line_of}
 use Rattle.lines.specs.declared.Line.{Line}
 use Rattle.lines.specs.declared.Line.TheVariants.{Lane, Least, Change, Malformed}
@@ -40,13 +40,13 @@ abbrev pub AllFramed : {S₀ : Stores} {ns : List ℕ} {ts : List Told} {s : Ses
     → Transcript S₀ ns ts s S → Type 0
 AllFramed begun = Unit {0}
 AllFramed (then {s = s} {S = S} {S' = S'} {r = r} bytes x b) =
-    AllFramed x × Framed s (line_of bytes) r.number S S'
+    AllFramed x × Framed s (line_of bytes) (answer_number r) S S'
 
 -- what `report::write`, lent the wall's rows and a buffer, answers and leaves in the buffer: no refusal, and the text
 -- of these rows, the bytes after it kept
 pub record Printed (p : Partitioning) (rs : List Row) (out out' : List ℕ) (r : Reported) : Type 0 where
-  pub number : r.number ≡ 0
-  pub bytes : r.bytes ≡ length (printed_rows p rs)
+  pub number : answer_number r ≡ 0
+  pub bytes : bytes_of r ≡ length (printed_rows p rs)
   pub text : out' ≡ printed_rows p rs ++ drop (length (printed_rows p rs)) out
 
 -- what holds after the lines of a transcript

@@ -3,6 +3,7 @@
 use Rattle.std.specs.Prelude.{List, [], ◌∷◌, ℕ}
 use Rattle.interval.specs.declared.tuple.Tuple.{Tuple}
 use Rattle.rows.specs.declared.Side.TheVariants.{Outer, Inner}
+use Rattle.refusal.specs.Refusal.{answer_number}
 use Rattle.checks.specs.Stores.{Stores}
 use Rattle.history.specs.Machine.{Call, insert, delete, Told}
 use Rattle.lines.specs.Line.{line_of}
@@ -12,8 +13,7 @@ use Rattle.lines.specs.declared.Line.{Line}
 use Rattle.lines.specs.declared.Line.TheVariants.{Lane, Least, Change, Malformed}
 use Rattle.session_plan.specs.Lanes.{fresh}
 use Rattle.session_plan.specs.declared.Session.{Session}
-use Rattle.session.specs.Session.{SteppedBy}
-use Rattle.session.specs.declared.Stepped.{Stepped}
+use Rattle.session.specs.Session.{Stepped, stepped_to, SteppedBy}
 
 -- the call that a change asks for: `drawin` and `spotin` insert, `drawout` and `spotout` withdraw
 abbrev pub call_of : Word → Tuple → Call
@@ -38,4 +38,4 @@ pub data Transcript (S₀ : Stores) : List ℕ → List Told → Session → Sto
   begun : Transcript S₀ [] [] fresh S₀
   then : {ns : List ℕ} {ts : List Told} {s : Session} {S S' : Stores} {r : Stepped} (bytes : List ℕ)
       → Transcript S₀ ns ts s S → SteppedBy s (line_of bytes) S S' r
-      → Transcript S₀ (r.number ∷ ns) (heard (line_of bytes) r.number ts) r.session S'
+      → Transcript S₀ (answer_number r ∷ ns) (heard (line_of bytes) (answer_number r) ts) (stepped_to s r) S'

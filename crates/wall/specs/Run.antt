@@ -1,10 +1,9 @@
 -- What the program's loop keeps: the calls of `stream` that were made so far are a run of the theorem of the program's
 -- text (crate `program_text`), on stores that had the words of 8 lanes. So no call is refused, and what they wrote is
 -- what the theorem says.
-use Rattle.std.specs.Prelude.{List, ◌≡◌, ℕ, ◌≤◌, length}
+use Rattle.std.specs.Prelude.{List, ℕ, ◌≤◌, length, Ok}
 use Rattle.checks.specs.Stores.{Stores, stores}
 use Rattle.session.specs.Session.{EightPartitions}
-use Rattle.text_end.specs.declared.Finished.{Finished}
 use Rattle.stream.specs.Taking.{TakenBy}
 use Rattle.stream.specs.Finishing.{FinishedBy}
 use Rattle.stream.specs.declared.Reading.{Reading}
@@ -25,16 +24,15 @@ pub record FollowingRows (reading : Reading) (rows : List ℕ) : Type 0 where
   pub inner : List ℕ
   pub follows : Following reading (stores outer inner rows)
 
--- a part that was taken, as `take` promises it: it is one of the run's, and its text lies within the buffer
+-- a part that was taken, as `take` promises it where it is not refused: it is one of the run's, and its text lies
+-- within the buffer
 pub record PartFollowed (s : Reading) (part out : List ℕ) (S : Stores) (out' : List ℕ) (S' : Stores) (r : Taken)
     : Type 0 where
-  pub taken : TakenBy s part out S out' S' r
-  pub number : r.number ≡ 0
+  pub taken : TakenBy s part out S out' S' (Ok r)
   pub follows : Following r.reading S'
   pub within : r.bytes ≤ length out'
 
 -- the end of the text, as `finish` promises it
-pub record EndFollowed (s : Reading) (rows out rows' out' : List ℕ) (r : Finished) : Type 0 where
-  pub ended : FinishedBy s rows out rows' out' r
-  pub number : r.number ≡ 0
-  pub within : r.bytes ≤ length out'
+pub record EndFollowed (s : Reading) (rows out rows' out' : List ℕ) (bytes : ℕ) : Type 0 where
+  pub ended : FinishedBy s rows out rows' out' (Ok bytes)
+  pub within : bytes ≤ length out'

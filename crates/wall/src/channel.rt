@@ -1,6 +1,6 @@
 // Standard input, output and error: a part of the input, a text to the output, and a failure told on standard error by
 // one line. Each read and each write of std is one system call, and nothing is buffered. An interrupted call is made
-// again. A proved loop has to end, and nothing says that interruptions do, so they are counted down from a number that
+// again. A proved loop has to end, and nothing says that interruptions do, so they are counted up to a number that
 // no run uses up.
 ghost use Rattle.std.specs.Prelude.{◌≡◌, ◌≤◌, pos, length, ◌≤ℤ◌};
 ghost use Rattle.text_buffer.specs.Buffer.{Put};
@@ -16,20 +16,8 @@ const FAILURE_BYTES: usize = 40;
 // The system's error number of a call that a signal interrupted, EINTR.
 const INTERRUPTED: i32 = 4;
 
-// What a call moved: bytes, at least one; none; or it failed, with the system's error number.
-#[derive(Clone, Copy)]
-pub(crate) enum Moved {
-    Bytes(usize),
-    Nothing,
-    Failed(i32),
-}
-
-// What became of a text: it is written, or a call failed, with its error number.
-#[derive(Clone, Copy)]
-enum Written {
-    All,
-    Failed(i32),
-}
+// What a call moved: so many bytes, or it failed, with the system's error number.
+type Moved = Result<usize, i32>;
 
 // What a read into or a write of `buffer` answered. An error that is not the system's has no number, and counts as 0:
 // the calls made here answer none.
@@ -37,22 +25,8 @@ fn answered(got: io::Result<usize>, buffer: &[u8]) -> Moved
     ensures { MovedWithin buffer.now result }
 {
     match got {
-        Err(error) => Moved::Failed(error.raw_os_error().unwrap_or(0)),
-        Ok(count) => {
-            let n = count.min(buffer.len());
-            if n == 0 {
-                return Moved::Nothing;
-            }
-            Moved::Bytes(n)
-        }
-    }
-}
-
-// Whether a signal came before anything was moved.
-fn is_interrupted(moved: Moved) -> bool {
-    match moved {
-        Moved::Failed(error) => error == INTERRUPTED,
-        Moved::Bytes(_) | Moved::Nothing => false,
+        Err(error) => Err(error.raw_os_error().unwrap_or(0)),
+        Ok(count) => Ok(count.min(buffer.len())),
     }
 }
 
@@ -60,47 +34,43 @@ fn is_interrupted(moved: Moved) -> bool {
 fn read_some<R: Read>(input: &mut R, part: &mut [u8]) -> Moved
     ensures { MovedWithin part.new result }
 {
-    let mut turns = u64::MAX;
-    while 0 < turns {
+    for _ in 0..u64::MAX {
         let got = input.read(part);
         let moved = answered(got, part);
-        if !is_interrupted(moved) {
+        if moved != Err(INTERRUPTED) {
             return moved;
         }
-        turns -= 1;
     }
-    Moved::Failed(INTERRUPTED)
+    Err(INTERRUPTED)
 }
 
 // Writes as much of the text as one call takes.
 fn write_some<W: Write>(output: &mut W, text: &[u8]) -> Moved
     ensures { MovedWithin text.now result }
 {
-    let mut turns = u64::MAX;
-    while 0 < turns {
+    for _ in 0..u64::MAX {
         let got = output.write(text);
         let moved = answered(got, text);
-        if !is_interrupted(moved) {
+        if moved != Err(INTERRUPTED) {
             return moved;
         }
-        turns -= 1;
     }
-    Moved::Failed(INTERRUPTED)
+    Err(INTERRUPTED)
 }
 
 // Writes all of the text, by further calls where one takes only a part. A call that takes nothing counts as failed,
 // with the number 0: the system gives none.
-fn write_all<W: Write>(output: &mut W, text: &[u8]) -> Written {
+fn write_all<W: Write>(output: &mut W, text: &[u8]) -> Result<(), i32> {
     let mut from: usize = 0;
+    // A call may take only a part: no counter bounds it.
     while from < text.len() {
-        let moved = write_some(output, &text[from..]);
-        match moved {
-            Moved::Bytes(n) => from += n,
-            Moved::Nothing => return Written::Failed(0),
-            Moved::Failed(error) => return Written::Failed(error),
+        let n = write_some(output, &text[from..])?;
+        if n == 0 {
+            return Err(0);
         }
+        from += n;
     }
-    Written::All
+    Ok(())
 }
 
 // Puts what failed, its error number and byte 10; answers how many bytes.
@@ -128,7 +98,7 @@ fn tell(mut stderr: Stderr, what: &[u8], error: i32)
 {
     let mut line = [0u8; FAILURE_BYTES];
     let n = put_failure(&mut line, what, error_number(error));
-    write_all(&mut stderr, &line[..n]);
+    let _ = write_all(&mut stderr, &line[..n]);
 }
 
 // Reads a part of standard input, nothing at its end. A failure is told.
@@ -136,20 +106,17 @@ pub(crate) fn read_part(mut stdin: Stdin, stderr: Stderr, part: &mut [u8]) -> Mo
     ensures { MovedWithin part.new result }
 {
     let moved = read_some(&mut stdin, part);
-    if let Moved::Failed(error) = moved {
+    if let Err(error) = moved {
         tell(stderr, b"wall: read: error ", error);
     }
     moved
 }
 
-// Prints a text, all of it; or tells a failure, and then answers false.
-pub(crate) fn print(mut stdout: Stdout, stderr: Stderr, text: &[u8]) -> bool {
+// Prints a text, all of it. A failure is told.
+pub(crate) fn print(mut stdout: Stdout, stderr: Stderr, text: &[u8]) -> Result<(), i32> {
     let written = write_all(&mut stdout, text);
-    match written {
-        Written::All => true,
-        Written::Failed(error) => {
-            tell(stderr, b"wall: write: error ", error);
-            false
-        }
+    if let Err(error) = written {
+        tell(stderr, b"wall: write: error ", error);
     }
+    written
 }

@@ -13,11 +13,10 @@ ghost use Rattle.refusal_text.specs.Refusals.{refusal_room};
 ghost use Rattle.stream.specs.Finishing.{finish_room};
 ghost use Rattle.wall.specs.Run.{Following, FollowingRows, PartFollowed, EndFollowed};
 
-use channel::Moved;
 use refusal_text::REFUSAL_BYTES;
 use session_plan::{ROW_WORDS, TUPLE_WORDS};
+use std::io::{Stderr, Stdin, Stdout};
 use stream::{FINISH_BYTES, Reading, Taken};
-use text_end::Finished;
 
 // The most bytes of a part. The text buffer has room for a refusal for each of them, and for the end of the text.
 const PART_BYTES: usize = 4096;
@@ -39,39 +38,33 @@ fn take_part(
         text.old (stores outer.old inner.old rows.old)
         text.new (stores outer.new inner.new rows.new) result }
 {
-    stream::take(reading, part, outer, inner, rows, text)
+    stream::take(reading, part, outer, inner, rows, text).unwrap()
 }
 
 // The end of the input after all parts, with room for the end of the text.
-fn end_text(reading: Reading, rows: &mut [u64], text: &mut [u8]) -> Finished
+fn end_text(reading: Reading, rows: &mut [u64], text: &mut [u8]) -> usize
     requires following_rows { FollowingRows reading rows.old }
     requires finish_room_in_bounds { finish_room ≤ length text.old }
     ensures { EndFollowed reading
         rows.old text.old rows.new text.new result }
 {
-    stream::finish(reading, rows, text)
+    stream::finish(reading, rows, text).unwrap()
 }
 
-// A proved loop has to end, and nothing says that the input does, so the parts are counted down from a number that no
-// run uses up.
-fn main(rt: HostRuntime) {
-    let stdin = rt.stdin();
-    let stdout = rt.stdout();
-    let stderr = rt.stderr();
+// Reads the input to its end and prints its text, up to a call that fails: then its error number. A proved loop has to
+// end, and nothing says that the input does, so the parts are counted up to a number that no run reaches.
+fn run(stdin: Stdin, stdout: Stdout, stderr: Stderr) -> Result<(), i32> {
     let mut outer = [0u64; TUPLE_WORDS];
     let mut inner = [0u64; TUPLE_WORDS];
     let mut rows = [0u64; ROW_WORDS];
     let mut part = [0u8; PART_BYTES];
     let mut text = [0u8; TEXT_BYTES];
     let mut reading = stream::start();
-    let mut turns = u64::MAX;
-    while 0 < turns {
-        let moved = channel::read_part(stdin, stderr, &mut part);
-        let n = match moved {
-            Moved::Bytes(n) => n,
-            Moved::Nothing => break,
-            Moved::Failed(_) => return,
-        };
+    for _ in 0..u64::MAX {
+        let n = channel::read_part(stdin, stderr, &mut part)?;
+        if n == 0 {
+            break;
+        }
         let taken = take_part(
             reading,
             &part[..n],
@@ -81,14 +74,15 @@ fn main(rt: HostRuntime) {
             &mut text,
         );
         let bytes = taken.bytes;
-        if !channel::print(stdout, stderr, &text[..bytes]) {
-            return;
-        }
+        channel::print(stdout, stderr, &text[..bytes])?;
         let next = taken.reading;
         reading = next;
-        turns -= 1;
     }
-    let end = end_text(reading, &mut rows, &mut text);
-    let bytes = end.bytes;
-    channel::print(stdout, stderr, &text[..bytes]);
+    let bytes = end_text(reading, &mut rows, &mut text);
+    channel::print(stdout, stderr, &text[..bytes])
+}
+
+// A failure was told where it came up.
+fn main(rt: HostRuntime) {
+    let _ = run(rt.stdin(), rt.stdout(), rt.stderr());
 }

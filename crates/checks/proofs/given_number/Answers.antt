@@ -1,15 +1,17 @@
 -- `checks::given_number` meets its contract: the checks of plan and stores, then those of the tuple.
 -- Assumes nothing.
-use Rattle.lists.proofs.Choice.{answer-here, answer-next, answer-last}
+use Rattle.std.proofs.Common.{rules}
+use Rattle.lists.proofs.Choice.{answer-last}
+use Rattle.refusal.proofs.Answering.{refused-here, passed-next}
 use Rattle.checks.specs.Stores.{given_number}
 use Rattle.checks.proofs.given_number.Goals as goal
 
-pub returns-then-unsound-ne0 : goal.returns-then-unsound-ne0
+pub returns-in_err-store_number : goal.returns-in_err-store_number
 unfolding given_number
-returns-then-unsound-ne0 c = answer-here _ c.store_number-unsound.ensures c.if-unsound-ne0.true
+returns-in_err-store_number c = refused-here c.in_err-store_number.field-0.0 _ (search rules) c.in_err-store_number.ensures
 
 pub returns : goal.returns
 unfolding given_number
 returns c =
-    answer-next _ c.store_number-unsound.ensures c.if-unsound-ne0.false
+    passed-next _ c.in_ok-store_number.ensures
     (answer-last c.tuple_number.ensures)

@@ -1,30 +1,24 @@
--- `checks::lengths_number` meets its contract: the plan's checks, then check 4 of each store.
+-- `checks::lengths_number` meets its contract: the checks of the two tuple stores, then check 4 of the rows store.
 -- Assumes nothing.
-use Rattle.lists.proofs.Choice.{answer-here, answer-next, answer-last}
-use Rattle.checks.specs.Stores.{lengths_number}
+use mathlib.Core.Path.{sym, ◌∙◌}
+use Rattle.std.proofs.Common.{rules}
+use Rattle.lists.proofs.Choice.{answer-last}
+use Rattle.refusal.proofs.Answering.{refused-here, passed-next}
+use Rattle.checks.proofs.Checks.{sides-fit, lengths-from-sides}
 use Rattle.checks.proofs.lengths_number.Goals as goal
 
-pub returns-then-number-ne0 : goal.returns-then-number-ne0
-unfolding lengths_number
-returns-then-number-ne0 c = answer-here _ c.plan_number-number.ensures c.if-number-ne0.true
+pub returns-in_err-sides_lengths : goal.returns-in_err-sides_lengths
+returns-in_err-sides_lengths c =
+    let a = c.args in
+    refused-here c.in_err-sides_lengths.field-0.0 _ (search rules) c.in_err-sides_lengths.ensures
+    ∙ lengths-from-sides a.p a.outer a.inner a.rows
 
-pub returns-then-first-ne0 : goal.returns-then-first-ne0
-unfolding lengths_number
-returns-then-first-ne0 c =
-    answer-next _ c.plan_number-number.ensures c.if-number-ne0.false
-    (answer-here _ c.tuples_length-first.ensures c.if-first-ne0.true)
-
-pub returns-then-second-ne0 : goal.returns-then-second-ne0
-unfolding lengths_number
-returns-then-second-ne0 c =
-    answer-next _ c.plan_number-number.ensures c.if-number-ne0.false
-    (answer-next _ c.tuples_length-first.ensures c.if-first-ne0.false
-    (answer-here _ c.tuples_length-second.ensures c.if-second-ne0.true))
+pub rows_length-requires : goal.rows_length-requires
+rows_length-requires c =
+    let a = c.args in (sides-fit a.p a.outer a.inner (sym c.in_ok-sides_lengths.ensures)).0
 
 pub returns : goal.returns
-unfolding lengths_number
 returns c =
-    answer-next _ c.plan_number-number.ensures c.if-number-ne0.false
-    (answer-next _ c.tuples_length-first.ensures c.if-first-ne0.false
-    (answer-next _ c.tuples_length-second.ensures c.if-second-ne0.false
-    (answer-last c.rows_length.ensures)))
+    let a = c.args in
+    passed-next _ c.in_ok-sides_lengths.ensures (answer-last c.rows_length.ensures)
+    ∙ lengths-from-sides a.p a.outer a.inner a.rows

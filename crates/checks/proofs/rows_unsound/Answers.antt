@@ -4,10 +4,10 @@ use Rattle.checks.specs.Stores.{rows_unsound}
 use Rattle.checks.proofs.Checks.{check-none, check-met}
 use Rattle.checks.proofs.rows_unsound.Goals as goal
 
-pub returns-then-sound_rows : goal.returns-then-sound_rows
+pub returns : goal.returns
 unfolding rows_unsound
-returns-then-sound_rows c = check-none 5 c.sound_rows.ensures c.if-sound_rows.true
+returns c = check-none 5 c.sound_rows.ensures c.if-not-sound_rows.false
 
-pub returns-else-sound_rows : goal.returns-else-sound_rows
+pub returns-then-not-sound_rows : goal.returns-then-not-sound_rows
 unfolding rows_unsound
-returns-else-sound_rows c = check-met 5 c.sound_rows.ensures c.if-sound_rows.false
+returns-then-not-sound_rows c = check-met 5 c.sound_rows.ensures c.if-not-sound_rows.true

@@ -1,22 +1,24 @@
 -- `checks::sides_lengths` meets its contract: the plan's checks, then check 4 of each store.
 -- Assumes nothing.
-use Rattle.lists.proofs.Choice.{answer-here, answer-next, answer-last}
+use Rattle.std.proofs.Common.{rules}
+use Rattle.lists.proofs.Choice.{answer-last}
+use Rattle.refusal.proofs.Answering.{refused-here, passed-next}
 use Rattle.checks.specs.Stores.{sides_lengths}
 use Rattle.checks.proofs.sides_lengths.Goals as goal
 
-pub returns-then-number-ne0 : goal.returns-then-number-ne0
+pub returns-in_err-plan_number : goal.returns-in_err-plan_number
 unfolding sides_lengths
-returns-then-number-ne0 c = answer-here _ c.plan_number-number.ensures c.if-number-ne0.true
+returns-in_err-plan_number c = refused-here c.in_err-plan_number.field-0.0 _ (search rules) c.in_err-plan_number.ensures
 
-pub returns-then-outer_length-ne0 : goal.returns-then-outer_length-ne0
+pub returns-in_err-tuples_length : goal.returns-in_err-tuples_length
 unfolding sides_lengths
-returns-then-outer_length-ne0 c =
-    answer-next _ c.plan_number-number.ensures c.if-number-ne0.false
-    (answer-here _ c.tuples_length-outer_length.ensures c.if-outer_length-ne0.true)
+returns-in_err-tuples_length c =
+    passed-next _ c.in_ok-plan_number.ensures
+    (refused-here c.in_err-tuples_length.field-0.0 _ (search rules) c.in_err-tuples_length.ensures)
 
 pub returns : goal.returns
 unfolding sides_lengths
 returns c =
-    answer-next _ c.plan_number-number.ensures c.if-number-ne0.false
-    (answer-next _ c.tuples_length-outer_length.ensures c.if-outer_length-ne0.false
-    (answer-last c.tuples_length.ensures))
+    passed-next _ c.in_ok-plan_number.ensures
+    (passed-next _ c.in_ok-tuples_length.ensures
+    (answer-last c.tuples_length-2.ensures))

@@ -4,10 +4,10 @@ use Rattle.checks.specs.Stores.{tuples_length}
 use Rattle.checks.proofs.Checks.{check-none, check-met}
 use Rattle.checks.proofs.tuples_length.Goals as goal
 
-pub returns-then-fits_tuples : goal.returns-then-fits_tuples
+pub returns : goal.returns
 unfolding tuples_length
-returns-then-fits_tuples c = check-none 4 c.fits_tuples.ensures c.if-fits_tuples.true
+returns c = check-none 4 c.fits_tuples.ensures c.if-not-fits_tuples.false
 
-pub returns-else-fits_tuples : goal.returns-else-fits_tuples
+pub returns-then-not-fits_tuples : goal.returns-then-not-fits_tuples
 unfolding tuples_length
-returns-else-fits_tuples c = check-met 4 c.fits_tuples.ensures c.if-fits_tuples.false
+returns-then-not-fits_tuples c = check-met 4 c.fits_tuples.ensures c.if-not-fits_tuples.true

@@ -4,10 +4,10 @@ use Rattle.checks.specs.Stores.{tuples_unsound}
 use Rattle.checks.proofs.Checks.{check-none, check-met}
 use Rattle.checks.proofs.tuples_unsound.Goals as goal
 
-pub returns-then-sound_tuples : goal.returns-then-sound_tuples
+pub returns : goal.returns
 unfolding tuples_unsound
-returns-then-sound_tuples c = check-none 5 c.sound_tuples.ensures c.if-sound_tuples.true
+returns c = check-none 5 c.sound_tuples.ensures c.if-not-sound_tuples.false
 
-pub returns-else-sound_tuples : goal.returns-else-sound_tuples
+pub returns-then-not-sound_tuples : goal.returns-then-not-sound_tuples
 unfolding tuples_unsound
-returns-else-sound_tuples c = check-met 5 c.sound_tuples.ensures c.if-sound_tuples.false
+returns-then-not-sound_tuples c = check-met 5 c.sound_tuples.ensures c.if-not-sound_tuples.true

@@ -1,5 +1,5 @@
 -- `coverage::covered_from` meets its contract. The loop's invariant: the nearest of all is the nearest of what is found
--- and the rows made with the partitions that are left. The measure is how many are left. Assumes nothing.
+-- and the rows made with the partitions that are left. Assumes nothing.
 use mathlib.Core.Path.{sym, ap, ◌∙◌}
 use native.Mathlib.Omega.{arith}
 use Rattle.interval.specs.Tuple.{tuple_width}

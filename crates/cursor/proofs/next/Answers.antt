@@ -5,27 +5,18 @@ use Rattle.cursor.proofs.next.Goals as goal
 
 pub overflow_add-at : goal.overflow_add-at
 overflow_add-at c =
-    let pre = c.requires in
-    let partition = pre.stands.partition pre.found_value in
-    omega (
-      arith,
-      pre.stands.place pre.found_value,
-      pre.scannable.roomy.within _ partition,
-      scan-inside _ _ pre.scannable _ partition,
-    )
+    let scannable = c.requires.scannable in
+    let at = c.requires.stands in
+    omega (arith, at.place, scannable.roomy.within _ at.partition, scan-inside _ _ scannable _ at.partition)
 
 pub reach-requires : goal.reach-requires
 reach-requires c =
-    let pre = c.requires in
-    let partition = pre.stands.partition pre.found_value in
-    let row = pre.stands.place pre.found_value in
+    let at = c.requires.stands in
     record {
-      scannable = pre.scannable;
-      i_le_count = omega (arith, partition);
-      k_bound = omega (arith, row);
+      scannable = c.requires.scannable;
+      i_le_count = omega (arith, at.partition);
+      k_bound = omega (arith, at.place);
     }
 
 pub returns : goal.returns
-returns c =
-    let pre = c.requires in
-    advanced _ _ _ _ pre.stands pre.found_value c.reach.ensures
+returns c = advanced _ _ _ _ c.requires.stands c.reach.ensures

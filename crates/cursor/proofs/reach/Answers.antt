@@ -1,8 +1,7 @@
 -- `cursor::reach` meets its contract. The loop's invariant is `Reaching`: at this row of partition j as much is left as
--- at row k of partition i. The measure is how many partitions are left. Assumes nothing.
+-- at row k of partition i. Assumes nothing.
 use mathlib.Core.Path.{ap}
 use native.Mathlib.Omega.{arith}
-use Rattle.plan.specs.declared.PartitionIndex.{PartitionIndex}
 use Rattle.part.specs.Part.{counted}
 use Rattle.cursor.proofs.Cursors.{scan-inside, scan-fits}
 use Rattle.cursor.proofs.Cursors.{reaching-none, turn-ends, turn-goes-on, reached-end}
@@ -14,8 +13,8 @@ loop-j-init c = reaching-none _ _ _ _ c.requires.i_le_count c.requires.k_bound
 pub partition-part-requires : goal.partition-part-requires
 partition-part-requires c = scan-inside _ _ c.requires.scannable _ c.loop-j-test.true
 
-pub seek-at-requires : goal.seek-at-requires
-seek-at-requires c =
+pub seek-requires : goal.seek-requires
+seek-requires c =
     let here = c.partition-part.ensures in
     let place = c.loop-j.invariant.here in
     record {
@@ -23,17 +22,13 @@ seek-at-requires c =
       k_bound = omega (arith, place, ap counted here);
     }
 
-pub returns-then-at : goal.returns-then-at
-returns-then-at c =
-    turn-ends _ _ _ _ _ _ c.loop-j-test.true c.loop-j.invariant _ c.partition-part.ensures _
-    c.seek-at.ensures c.if-at.true
+pub returns-in-Some : goal.returns-in-Some
+returns-in-Some c =
+    turn-ends _ _ _ _ _ _ c.loop-j-test.true c.loop-j.invariant _ c.partition-part.ensures _ c.in-Some.ensures
 
 pub loop-j-preserved : goal.loop-j-preserved
 loop-j-preserved c =
-    turn-goes-on _ _ _ _ _ _ c.loop-j-test.true c.loop-j.invariant _ c.partition-part.ensures _
-    c.seek-at.ensures c.if-at.false
+    turn-goes-on _ _ _ _ _ _ c.loop-j-test.true c.loop-j.invariant _ c.partition-part.ensures c.in_default.ensures
 
 pub returns : goal.returns
-returns c =
-    reached-end _ _ _ _ _ _ c.loop-j-test.false c.loop-j.invariant _
-    (ap (λ (x : PartitionIndex). x.0) c.past.ensures.1) c.past.ensures.0
+returns c = reached-end _ _ _ _ _ _ c.loop-j-test.false c.loop-j.invariant

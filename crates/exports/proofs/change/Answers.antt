@@ -1,38 +1,22 @@
 -- `exports::change` meets its contract: lengths, then the join's call of the kind with the plan that the words say.
 -- Assumes nothing.
-use mathlib.Core.Path.{◌≡◌, refl, sym, ◌∙◌}
+use mathlib.Core.Path.{◌≡◌, sym}
 use Rattle.checks.specs.Stores.{stores}
 use Rattle.join.specs.Changes.{Changed}
 use Rattle.layout.specs.Layout.{plan_in, answer_fits, lent_number}
-use Rattle.layout.proofs.Lent.{lent-long, lent_fits}
-use Rattle.exports.proofs.Exporting.{exported-refused, exported-called, changed-said}
+use Rattle.layout.proofs.Lent.{lent_fits}
+use Rattle.exports.proofs.Exporting.{exported-called, changed-said}
 use Rattle.exports.proofs.change.Goals as goal
-
-pub returns-then-refusal-ne0 : goal.returns-then-refusal-ne0
-returns-then-refusal-ne0 c =
-    let a = c.args in
-    let s = stores a.outer.now a.inner.now a.rows.now in
-    exported-refused {Kept = s ≡ s}
-    {Done = λ r. Changed a.kind (plan_in a.plan.now) a.side a.t s s r}
-    (lent_number a.plan.now (answer_fits a.answer.now)) a.answer.now c.tell.new.answer
-    c.lent_number-refusal.result c.tell.result c.refused.result c.lent_number-refusal.ensures
-    c.if-refusal-ne0.true c.refused.ensures c.tell.ensures refl
-
-pub plan_in-p-requires : goal.plan_in-p-requires
-plan_in-p-requires c =
-    let a = c.args in
-    lent-long a.plan.now (answer_fits a.answer.now) (sym c.lent_number-refusal.ensures ∙ c.if-refusal-ne0.false)
 
 pub returns : goal.returns
 returns c =
     let a = c.args in
     let right = answer_fits a.answer.now in
-    let zero = sym c.lent_number-refusal.ensures ∙ c.if-refusal-ne0.false in
     let s = stores a.outer.now a.inner.now a.rows.now in
     let s' = stores c.change-a.new.outer c.change-a.new.inner c.change-a.new.rows in
     exported-called {Kept = s' ≡ s}
     {Done = λ r. Changed a.kind (plan_in a.plan.now) a.side a.t s s' r}
     (lent_number a.plan.now right) a.answer.now c.tell-2.new.answer c.tell-2.result
-    c.change-a.result zero (lent_fits a.plan.now right zero) c.tell-2.ensures
-    (changed-said a.kind c.plan_in-p.result (plan_in a.plan.now) a.side a.t s s'
-    c.change-a.result c.plan_in-p.ensures c.change-a.ensures)
+    c.change-a.result c.in-Ok.ensures.number (lent_fits a.plan.now right (sym c.in-Ok.ensures.number)) c.tell-2.ensures
+    (changed-said a.kind c.in-Ok.p (plan_in a.plan.now) a.side a.t s s'
+    c.change-a.result c.in-Ok.ensures.plan c.change-a.ensures)

@@ -1,35 +1,17 @@
 -- `exports::ruthgarwy_sweep` meets its contract: lengths, then `join::sweep` with the plan that the words say.
 -- Assumes nothing.
-use mathlib.Core.Path.{◌≡◌, refl, sym, ◌∙◌}
+use mathlib.Core.Path.{◌≡◌, sym}
 use Rattle.checks.specs.Stores.{stores}
 use Rattle.join.specs.Sweeps.{Swept}
 use Rattle.layout.specs.Layout.{plan_in, answer_fits, lent_number}
-use Rattle.layout.proofs.Lent.{lent-long, lent_fits}
-use Rattle.exports.proofs.Exporting.{exported-refused, exported-called, swept-said}
+use Rattle.layout.proofs.Lent.{lent_fits}
+use Rattle.exports.proofs.Exporting.{exported-called, swept-said}
 use Rattle.exports.proofs.ruthgarwy_sweep.Goals as goal
-
-pub returns-then-refusal-ne0 : goal.returns-then-refusal-ne0
-returns-then-refusal-ne0 c =
-    let a = c.args in
-    let s = stores a.outer.now a.inner.now a.rows.now in
-    let c₀ = a.outer_cache.now in
-    let d₀ = a.inner_cache.now in
-    exported-refused {Kept = (a.rows.now ≡ a.rows.now) × (c₀ ≡ c₀) × (d₀ ≡ d₀)}
-    {Done = λ r. Swept (plan_in a.plan.now) s c₀ d₀ s c₀ d₀ r}
-    (lent_number a.plan.now (answer_fits a.answer.now)) a.answer.now c.tell.new.answer
-    c.lent_number-refusal.result c.tell.result c.refused.result c.lent_number-refusal.ensures
-    c.if-refusal-ne0.true c.refused.ensures c.tell.ensures (refl, refl, refl)
-
-pub plan_in-p-requires : goal.plan_in-p-requires
-plan_in-p-requires c =
-    let a = c.args in
-    lent-long a.plan.now (answer_fits a.answer.now) (sym c.lent_number-refusal.ensures ∙ c.if-refusal-ne0.false)
 
 pub returns : goal.returns
 returns c =
     let a = c.args in
     let right = answer_fits a.answer.now in
-    let zero = sym c.lent_number-refusal.ensures ∙ c.if-refusal-ne0.false in
     let s = stores a.outer.now a.inner.now a.rows.now in
     let s' = stores a.outer.now a.inner.now c.sweep-a.new.rows in
     let c₀ = a.outer_cache.now in
@@ -37,6 +19,6 @@ returns c =
     exported-called {Kept = (c.sweep-a.new.rows ≡ a.rows.now) × (c.sweep-a.new.outer_cache ≡ c₀) × (c.sweep-a.new.inner_cache ≡ d₀)}
     {Done = λ r. Swept (plan_in a.plan.now) s c₀ d₀ s' c.sweep-a.new.outer_cache c.sweep-a.new.inner_cache r}
     (lent_number a.plan.now right) a.answer.now c.tell-2.new.answer c.tell-2.result
-    c.sweep-a.result zero (lent_fits a.plan.now right zero) c.tell-2.ensures
-    (swept-said c.plan_in-p.result (plan_in a.plan.now) s c₀ d₀ s' c.sweep-a.new.outer_cache c.sweep-a.new.inner_cache
-    c.sweep-a.result c.plan_in-p.ensures c.sweep-a.ensures)
+    c.sweep-a.result c.in-Ok.ensures.number (lent_fits a.plan.now right (sym c.in-Ok.ensures.number)) c.tell-2.ensures
+    (swept-said c.in-Ok.p (plan_in a.plan.now) s c₀ d₀ s' c.sweep-a.new.outer_cache c.sweep-a.new.inner_cache
+    c.sweep-a.result c.in-Ok.ensures.plan c.sweep-a.ensures)

@@ -1,5 +1,5 @@
 -- `gaps::list_partition` meets its contract. The loop's invariant is `Listing`: what is left are the records of the
--- drawings from i on. The measure is how many are left. Assumes nothing.
+-- drawings from i on. Assumes nothing.
 use mathlib.Core.Path.{◌≡◌, sym, ◌∙◌}
 use Prim.Native.Nat.{◌<◌}
 use native.Mathlib.Omega.{arith}
@@ -22,10 +22,10 @@ list_tuple-records-requires c =
     let a = c.args in
     let at = c.loop-i in
     let ts = tuples_in a.part.now in
-    let d = c.tuple_at-d.result in
+    let d = c.record_at-d.result in
     let inside : at.i < length ts = omega (arith, length-tuples a.part.now, c.count-n.ensures) in
     let member : get_or ts at.i d ≡ d =
-    tuple-in at.i a.part.now d (omega (arith, c.count-n.ensures)) ∙ sym c.tuple_at-d.ensures in
+    tuple-in at.i a.part.now d (omega (arith, c.count-n.ensures)) ∙ sym c.record_at-d.ensures in
     let next = gather-next (gaps_by a.p a.inner.now) ts at.i d inside member in
     let legal = rw member at (all-get_or legal_tuple ts d c.requires.part_value at.i inside) in
     let fits =
@@ -44,10 +44,10 @@ loop-i-preserved c =
     let a = c.args in
     let at = c.loop-i in
     let ts = tuples_in a.part.now in
-    let d = c.tuple_at-d.result in
+    let d = c.record_at-d.result in
     let inside : at.i < length ts = omega (arith, length-tuples a.part.now, c.count-n.ensures) in
     let member : get_or ts at.i d ≡ d =
-    tuple-in at.i a.part.now d (omega (arith, c.count-n.ensures)) ∙ sym c.tuple_at-d.ensures in
+    tuple-in at.i a.part.now d (omega (arith, c.count-n.ensures)) ∙ sym c.record_at-d.ensures in
     let next = gather-next (gaps_by a.p a.inner.now) ts at.i d inside member in
     listing-more a.out.now a.k (gather (gaps_by a.p a.inner.now) ts) _ (gaps_by a.p a.inner.now d) _ at.out at.records
     _ _ next c.list_tuple-records.ensures at.invariant

@@ -1,5 +1,5 @@
 -- `gaps::list_store` meets its contract. The loop's invariant is `Listing`: what is left are the records of the
--- partitions from i on. The measure is how many are left. Assumes nothing.
+-- partitions from i on. Assumes nothing.
 use mathlib.Core.Bool.{true}
 use mathlib.Core.List.{◌++◌}
 use mathlib.Core.Path.{◌≡◌, sym, ap, ◌∙◌}

@@ -10,7 +10,7 @@ returns c =
     let a = c.args in
     let out = c.if-end-out.out in
     elim c.if-end-out.branch [
-      | then-end-out w ↦ placed-here a.out.now a.k a.t out (w.out-is ∙ w.write_tuple.ensures)
+      | then-end-out w ↦ placed-here a.out.now a.k a.t out (w.out-is ∙ w.write.ensures)
       | else-end-out w ↦ placed-not a.out.now a.k a.t out w.if-end-out.false w.out-is
     ]
 

@@ -10,8 +10,8 @@ returns-then-room-records c =
     let a = c.args in
     rw (lt-ltb a.room (words_for a.records) c.if-room-records.true)
 
-pub returns-else-room-records : goal.returns-else-room-records
+pub returns : goal.returns
 unfolding room_check
-returns-else-room-records c =
+returns c =
     let a = c.args in
     rw (le-ltb a.room (words_for a.records) c.if-room-records.false)

@@ -1,5 +1,5 @@
 -- `label::label_number` meets its contract. The loop's invariant is `Read`: so many letters at the end are read, and
--- their sum by the table is n. The measure is how many are left. Assumes nothing.
+-- their sum by the table is n. Assumes nothing.
 use mathlib.Core.Path.{◌≡◌, sym, ◌∙◌, ap}
 use Prim.Native.Nat.{◌≤◌}
 use native.Mathlib.Omega.{arith}

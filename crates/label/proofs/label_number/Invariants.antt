@@ -1,12 +1,7 @@
 -- `label::label_number` meets its contract. The loop's invariant is `Read`: so many letters at the end are read, and
--- their sum by the table is n. The measure is how many are left. Assumes nothing.
-use Prim.Native.Nat.{◌-◌}
-use lib.ListN.{length}
+-- their sum by the table is n. Assumes nothing.
 use Rattle.label.proofs.Loops.{Read}
 use Rattle.label.proofs.label_number.Given as goal
 
 abbrev pub invariant-loop-after : goal.invariant-loop-after
 invariant-loop-after l = Read l.weights l.letters l.after l.n
-
-abbrev pub decreases-loop-after : goal.decreases-loop-after
-decreases-loop-after l = length l.letters - l.after

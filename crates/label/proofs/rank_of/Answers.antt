@@ -14,4 +14,4 @@ returns-then-b-gt90 c = simp (le-leb _ _ c.if-b-lt65.false, lt-leb _ _ c.if-b-gt
 
 pub returns : goal.returns
 unfolding rank
-returns c = simp (le-leb _ _ c.if-b-lt65.false, le-leb _ _ c.if-b-gt90.false, c.wide.ensures)
+returns c = simp (le-leb _ _ c.if-b-lt65.false, le-leb _ _ c.if-b-gt90.false, c.from.ensures)

@@ -1,5 +1,5 @@
 -- `layout::lasts_in` meets its contract. The loop's invariant is `Copied`: the first i places hold the last
--- minutes of the words from the given place on. The measure is how many places are left.
+-- minutes of the words from the given place on.
 -- Assumes nothing.
 use mathlib.Core.List.{List}
 use mathlib.Core.Path.{◌≡◌, ◌∙◌}

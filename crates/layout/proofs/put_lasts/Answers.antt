@@ -1,5 +1,5 @@
 -- `layout::put_lasts` meets its contract. The loop's invariant is `Copied`: the first i last minutes stand in the
--- plan's words after the three before them, the others are as they were. The measure is how many are left.
+-- plan's words after the three before them, the others are as they were.
 -- Assumes nothing.
 use mathlib.Core.Path.{◌≡◌, refl, sym, ◌∙◌}
 use Prim.Native.Nat.{◌+◌}

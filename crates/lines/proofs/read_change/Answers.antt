@@ -18,7 +18,7 @@ returns-in_default c =
     let w = c.args.word in
     let bs = c.args.rest.now in
     let k = c.place_of-c in
-    let r = c.read_label-named in
+    let r = c.read_label in
     change-label w bs k.result k.ensures (omega (arith, c.if-rest-c.false))
     (label-refused (cut_before k.result bs) r.result r.ensures c.in_default.is)
 
@@ -27,8 +27,8 @@ returns c =
     let w = c.args.word in
     let bs = c.args.rest.now in
     let k = c.place_of-c in
-    let l = c.read_label-named in
-    change-numbers w bs k.result k.ensures c.read_numbers.result c.in-Number.label
+    let l = c.read_label in
+    change-numbers w bs k.result k.ensures c.read_numbers.result c.in-Some.label
     (omega (arith, c.if-rest-c.false))
-    (label-value (cut_before k.result bs) l.result c.in-Number.label l.ensures c.in-Number.is)
+    (label-value (cut_before k.result bs) l.result c.in-Some.label l.ensures c.in-Some.is)
     c.read_numbers.ensures

@@ -7,11 +7,11 @@ use Rattle.lines.proofs.read_lane.Goals as goal
 pub returns-in_default : goal.returns-in_default
 returns-in_default c =
     let bs = c.args.rest.now in
-    let r = c.read_number-field in
+    let r = c.read_number in
     lane-refused bs (number-refused bs r.result r.ensures c.in_default.is)
 
 pub returns : goal.returns
 returns c =
     let bs = c.args.rest.now in
-    let r = c.read_number-field in
-    lane-value bs c.in-Value.last (number-value bs r.result c.in-Value.last r.ensures c.in-Value.is)
+    let r = c.read_number in
+    lane-value bs c.in-Some.last (number-value bs r.result c.in-Some.last r.ensures c.in-Some.is)

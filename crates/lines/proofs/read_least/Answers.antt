@@ -7,11 +7,11 @@ use Rattle.lines.proofs.read_least.Goals as goal
 pub returns-in_default : goal.returns-in_default
 returns-in_default c =
     let bs = c.args.rest.now in
-    let r = c.read_number-field in
+    let r = c.read_number in
     least-refused bs (number-refused bs r.result r.ensures c.in_default.is)
 
 pub returns : goal.returns
 returns c =
     let bs = c.args.rest.now in
-    let r = c.read_number-field in
-    least-value bs c.in-Value.minutes (number-value bs r.result c.in-Value.minutes r.ensures c.in-Value.is)
+    let r = c.read_number in
+    least-value bs c.in-Some.minutes (number-value bs r.result c.in-Some.minutes r.ensures c.in-Some.is)

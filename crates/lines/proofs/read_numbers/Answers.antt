@@ -20,7 +20,7 @@ returns-in_default c =
     let label = c.args.label in
     let bs = c.args.rest.now in
     let k = c.place_of-c in
-    let r = c.read_number-number in
+    let r = c.read_number in
     numbers-item w label bs k.result k.ensures (omega (arith, c.if-rest-c.false))
     (number-refused (cut_before k.result bs) r.result r.ensures c.in_default.is)
 
@@ -30,8 +30,8 @@ returns c =
     let label = c.args.label in
     let bs = c.args.rest.now in
     let k = c.place_of-c in
-    let l = c.read_number-number in
-    numbers-span w label bs k.result k.ensures c.read_span.result c.in-Value.item
+    let l = c.read_number in
+    numbers-span w label bs k.result k.ensures c.read_span.result c.in-Some.item
     (omega (arith, c.if-rest-c.false))
-    (number-value (cut_before k.result bs) l.result c.in-Value.item l.ensures c.in-Value.is)
+    (number-value (cut_before k.result bs) l.result c.in-Some.item l.ensures c.in-Some.is)
     c.read_span.ensures

@@ -18,29 +18,29 @@ returns-in_default c =
     let at = c.args in
     let bs = c.args.rest.now in
     let k = c.place_of-c in
-    let r = c.read_number-early in
+    let r = c.read_number in
     span-first at.word at.label at.item bs k.result k.ensures
     (omega (arith, c.if-rest-c.false))
     (number-refused (cut_before k.result bs) r.result r.ensures c.in_default.is)
 
-pub returns-in_default-late : goal.returns-in_default-late
-returns-in_default-late c =
+pub returns-in_default-read_number : goal.returns-in_default-read_number
+returns-in_default-read_number c =
     let at = c.args in
     let bs = c.args.rest.now in
     let k = c.place_of-c in
-    let r = c.read_number-late in
+    let r = c.read_number-2 in
     span_last at.word at.label at.item bs k.result k.ensures
     (omega (arith, c.if-rest-c.false))
-    (number-refused (cut_after k.result bs) r.result r.ensures c.in_default-late.is)
+    (number-refused (cut_after k.result bs) r.result r.ensures c.in_default-read_number.is)
 
 pub returns : goal.returns
 returns c =
     let at = c.args in
     let bs = c.args.rest.now in
     let k = c.place_of-c in
-    let r = c.read_number-early in
-    let s = c.read_number-late in
-    span_value at.word at.label at.item bs k.result k.ensures c.in-Value.first c.in-Value-late.last
+    let r = c.read_number in
+    let s = c.read_number-2 in
+    span_value at.word at.label at.item bs k.result k.ensures c.in-Some.first c.in-Some-read_number.last
     (omega (arith, c.if-rest-c.false))
-    (number-value (cut_before k.result bs) r.result c.in-Value.first r.ensures c.in-Value.is)
-    (number-value (cut_after k.result bs) s.result c.in-Value-late.last s.ensures c.in-Value-late.is)
+    (number-value (cut_before k.result bs) r.result c.in-Some.first r.ensures c.in-Some.is)
+    (number-value (cut_after k.result bs) s.result c.in-Some-read_number.last s.ensures c.in-Some-read_number.is)

@@ -1,5 +1,5 @@
 -- `move_count::count_part` meets its contract. The loop's invariant is `Counting`: the first k records are counted.
--- The measure is how many are left. Assumes nothing.
+-- Assumes nothing.
 use mathlib.Core.Path.{◌≡◌}
 use Prim.Native.Nat.{ℕ, ◌+◌, ◌≤◌, ◌<◌}
 use native.Mathlib.Omega.{arith}

@@ -1,5 +1,5 @@
 -- `move_count::count_store` meets its contract. The loop's invariant is `Summing`: the records of the first j
--- partitions are counted. The measure is how many are left. Assumes nothing.
+-- partitions are counted. Assumes nothing.
 use mathlib.Core.Path.{sym, ◌∙◌}
 use native.Mathlib.Omega.{arith}
 use Rattle.move_count.proofs.Counting.{summing-none, summing-inside, summing-part, summing-more}

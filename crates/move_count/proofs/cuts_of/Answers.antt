@@ -1,5 +1,5 @@
 -- `move_count::cuts_of` meets its contract. The loop's invariant is `Listed`: the first i places are the plan's last
--- chronons. The measure is how many are left. Assumes nothing.
+-- chronons. Assumes nothing.
 use mathlib.Core.Path.{refl}
 use Rattle.move_count.proofs.Listing.{listed-none, listed_more, listed-all}
 use Rattle.move_count.proofs.cuts_of.Goals as goal

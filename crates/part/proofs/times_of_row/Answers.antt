@@ -1,5 +1,5 @@
 -- `part::times_of_row` meets its contract. The loop's invariant is `Tallied`: k rows are seen, and `times`
--- of them equal the row. The measure is how many are left. Assumes nothing.
+-- of them equal the row. Assumes nothing.
 use mathlib.Core.Path.{sym, ◌∙◌}
 use Prim.Native.Nat.{◌<◌}
 use native.Mathlib.Omega.{arith}
@@ -13,9 +13,9 @@ use Rattle.part.proofs.times_of_row.Goals as goal
 pub loop-k-init : goal.loop-k-init
 loop-k-init c = tallied-none _ _
 
-pub row_at-requires : goal.row_at-requires
+pub record_at-requires : goal.record_at-requires
 unfolding counted
-row_at-requires c = omega arith
+record_at-requires c = omega arith
 
 pub overflow_add-equal_rows : goal.overflow_add-equal_rows
 unfolding counted
@@ -25,16 +25,12 @@ overflow_add-equal_rows c =
     TallyTurn (same_row args.row) (rows_in args.part.now) at.k at.equal_rows c.same_row.result) =
     let part = c.args.part.now in
     let at = c.loop-k in
-    let x = c.row_at.result in
+    let x = c.record_at.result in
     let h : at.k < counted part = c.loop-k-test.true in
     tallied-turn _ _ at.k at.equal_rows x c.same_row.result (omega (arith, length-rows part))
-    (row_in at.k part x h ∙ sym c.row_at.ensures) c.same_row.ensures at.invariant in
+    (row_in at.k part x h ∙ sym c.record_at.ensures) c.same_row.ensures at.invariant in
     let most = tallied-most _ _ _ _ (turn.more c.if-same_row.true) in
     omega (arith, most, length-rows c.args.part.now)
-
-pub overflow_add-k : goal.overflow_add-k
-unfolding counted
-overflow_add-k c = omega arith
 
 pub loop-k-preserved : goal.loop-k-preserved
 unfolding counted
@@ -44,10 +40,10 @@ loop-k-preserved c =
     TallyTurn (same_row args.row) (rows_in args.part.now) at.k at.equal_rows c.same_row.result) =
     let part = c.args.part.now in
     let at = c.loop-k in
-    let x = c.row_at.result in
+    let x = c.record_at.result in
     let h : at.k < counted part = c.loop-k-test.true in
     tallied-turn _ _ at.k at.equal_rows x c.same_row.result (omega (arith, length-rows part))
-    (row_in at.k part x h ∙ sym c.row_at.ensures) c.same_row.ensures at.invariant in
+    (row_in at.k part x h ∙ sym c.record_at.ensures) c.same_row.ensures at.invariant in
     let next = turn in
     (elim c.if-same_row.branch [ then-same_row w ↦ rw w.equal_rows-is (next.more w.if-same_row.true) | else-same_row w ↦ rw w.equal_rows-is (next.same w.if-same_row.false) ])
 

@@ -1,6 +1,5 @@
 -- `part::times_of_row` meets its contract. The loop's invariant is `Tallied`: k rows are seen, and `times`
--- of them equal the row. The measure is how many are left. Assumes nothing.
-use Prim.Native.Nat.{◌-◌}
+-- of them equal the row. Assumes nothing.
 use Rattle.interval.specs.Tuple.{same_row}
 use Rattle.part.specs.Part.{rows_in}
 use Rattle.part.proofs.Loops.{Tallied}
@@ -8,6 +7,3 @@ use Rattle.part.proofs.times_of_row.Given as goal
 
 abbrev pub invariant-loop-k : goal.invariant-loop-k
 invariant-loop-k l = Tallied (same_row l.row) (rows_in l.part) l.k l.equal_rows
-
-abbrev pub decreases-loop-k : goal.decreases-loop-k
-decreases-loop-k l = l.n - l.k

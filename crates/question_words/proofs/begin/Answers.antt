@@ -1,44 +1,15 @@
 -- `question_words::begin` meets its contract. The loop's invariant: the answers of the first i questions were cleared,
--- and the window, widened by the questions that are left, is that of all. The measure is what is left of the questions.
+-- and the window, widened by the questions that are left, is that of all.
 -- Assumes nothing.
 use mathlib.Core.Path.{refl, ap, ◌∙◌}
-use native.Mathlib.Omega.{arith}
 use Rattle.question.specs.Question.{with_answer}
-use Rattle.question_words.proofs.Loops.{changed-none, changed-length, changed-inside}
+use Rattle.question_words.proofs.Loops.{changed-none}
 use Rattle.question_words.proofs.Loops.{changed-next, changed-more, changed-all}
 use Rattle.question_words.proofs.Loops.{window-none, window_more, window-all}
 use Rattle.question_words.proofs.begin.Goals as goal
 
 pub loop-i-init : goal.loop-i-init
 loop-i-init c = (changed-none _ _ c.requires, window-none c.args.ws.now _ c.no_window-window.ensures)
-
-pub question_at-q-requires : goal.question_at-q-requires
-question_at-q-requires c = changed-inside _ _ c.requires c.loop-i.i c.loop-i.invariant.0 c.loop-i-test.true
-
-pub overflow_mul-ws : goal.overflow_mul-ws
-overflow_mul-ws c =
-    let inside = changed-inside _ _ c.requires c.loop-i.i c.loop-i.invariant.0 c.loop-i-test.true in
-    omega (arith, inside)
-
-pub overflow_add-ws : goal.overflow_add-ws
-overflow_add-ws c =
-    let inside = changed-inside _ _ c.requires c.loop-i.i c.loop-i.invariant.0 c.loop-i-test.true in
-    omega (arith, inside)
-
-pub offset_bounds-ws-i : goal.offset_bounds-ws-i
-offset_bounds-ws-i c =
-    let inside = changed-inside _ _ c.requires c.loop-i.i c.loop-i.invariant.0 c.loop-i-test.true in
-    omega (arith, inside)
-
-pub bounds-ws-i : goal.bounds-ws-i
-bounds-ws-i c =
-    let inside = changed-inside _ _ c.requires c.loop-i.i c.loop-i.invariant.0 c.loop-i-test.true in
-    omega (arith, inside)
-
-pub overflow_add-i : goal.overflow_add-i
-overflow_add-i c =
-    let inside = changed-inside _ _ c.requires c.loop-i.i c.loop-i.invariant.0 c.loop-i-test.true in
-    omega (arith, inside)
 
 pub loop-i-preserved : goal.loop-i-preserved
 loop-i-preserved c =
@@ -51,9 +22,6 @@ loop-i-preserved c =
       window_more ws c.loop-i.i c.loop-i.window q c.loop-i.invariant.1 taken
           (asked ∙ changed-next _ _ c.loop-i.i c.loop-i.invariant.0 taken q) _ c.widened-window.ensures,
     )
-
-pub shape_of-ws : goal.shape_of-ws
-shape_of-ws c = changed-length _ _ c.requires c.loop-i.i c.loop-i.invariant.0
 
 pub returns : goal.returns
 returns c = (

@@ -1,5 +1,4 @@
 -- `question_words::count_row` meets its contract. The loop's invariant: the row was counted for the first i questions.
--- The measure is what is left of the questions.
 -- Assumes nothing.
 use mathlib.Core.Path.{refl, ap, ◌∙◌}
 use Prim.Native.Nat.{◌<◌}
@@ -8,7 +7,7 @@ use lib.ListN.{length}
 use Rattle.question.specs.Steps.{with_row}
 use Rattle.question_words.specs.QuestionWords.{questions_in}
 use Rattle.question.proofs.Rooms.{room_at}
-use Rattle.question_words.proofs.Loops.{changed-none, changed-length, changed-inside}
+use Rattle.question_words.proofs.Loops.{changed-none}
 use Rattle.question_words.proofs.Loops.{changed-next, changed-more, changed-same, changed-all, questions-length}
 use Rattle.question_words.proofs.Loops.{other-label}
 use Rattle.question_words.proofs.count_row.Goals.{then-q-r, else-q-r}
@@ -16,10 +15,6 @@ use Rattle.question_words.proofs.count_row.Goals as goal
 
 pub loop-i-init : goal.loop-i-init
 loop-i-init c = changed-none _ _ c.requires.whole_questions
-
-pub question_at-q-requires : goal.question_at-q-requires
-question_at-q-requires c =
-    changed-inside _ _ c.requires.whole_questions c.loop-i.i c.loop-i.invariant c.loop-i-test.true
 
 pub with_row-next-requires : goal.with_row-next-requires
 with_row-next-requires c =
@@ -29,31 +24,6 @@ with_row-next-requires c =
     let l : c.loop-i.i < length qs = omega (arith, questions-length c.args.ws.now, taken) in
     rw (c.question_at-q.ensures ∙ changed-next _ _ c.loop-i.i c.loop-i.invariant taken d)
     (room_at qs c.loop-i.i d c.requires.ws_value l)
-
-pub overflow_mul-ws : goal.overflow_mul-ws
-overflow_mul-ws c =
-    let asked = changed-inside _ _ c.requires.whole_questions c.loop-i.i c.loop-i.invariant c.loop-i-test.true in
-    omega (arith, asked)
-
-pub overflow_add-ws : goal.overflow_add-ws
-overflow_add-ws c =
-    let asked = changed-inside _ _ c.requires.whole_questions c.loop-i.i c.loop-i.invariant c.loop-i-test.true in
-    omega (arith, asked)
-
-pub offset_bounds-ws-i : goal.offset_bounds-ws-i
-offset_bounds-ws-i c =
-    let asked = changed-inside _ _ c.requires.whole_questions c.loop-i.i c.loop-i.invariant c.loop-i-test.true in
-    omega (arith, asked)
-
-pub bounds-ws-i : goal.bounds-ws-i
-bounds-ws-i c =
-    let asked = changed-inside _ _ c.requires.whole_questions c.loop-i.i c.loop-i.invariant c.loop-i-test.true in
-    omega (arith, asked)
-
-pub overflow_add-i : goal.overflow_add-i
-overflow_add-i c =
-    let asked = changed-inside _ _ c.requires.whole_questions c.loop-i.i c.loop-i.invariant c.loop-i-test.true in
-    omega (arith, asked)
 
 pub loop-i-preserved : goal.loop-i-preserved
 loop-i-preserved c =
@@ -66,9 +36,6 @@ loop-i-preserved c =
       | else-q-r w ↦ rw w.ws-is (changed-same _ _ c.loop-i.i c.loop-i.invariant taken
           (rw is at (other-label r c.question_at-q.result w.if-q-r.false)))
     ])
-
-pub shape_of-ws : goal.shape_of-ws
-shape_of-ws c = changed-length _ _ c.requires.whole_questions c.loop-i.i c.loop-i.invariant
 
 pub returns : goal.returns
 returns c = changed-all _ _ c.requires.whole_questions c.loop-i.i c.loop-i.invariant c.loop-i-test.false

@@ -1,15 +1,8 @@
 -- `question_words::count_row` meets its contract. The loop's invariant: the row was counted for the first i questions.
--- The measure is what is left of the questions.
 -- Assumes nothing.
-use Prim.Native.Nat.{◌-◌, ◌/◌}
-use lib.ListN.{length}
 use Rattle.question.specs.Steps.{with_row}
-use Rattle.question_words.specs.QuestionWords.{question_width}
 use Rattle.question_words.proofs.Loops.{Changed}
 use Rattle.question_words.proofs.count_row.Given as goal
 
 abbrev pub invariant-loop-i : goal.invariant-loop-i
 invariant-loop-i l = Changed (with_row l.r) l.initial.ws l.i l.ws
-
-abbrev pub decreases-loop-i : goal.decreases-loop-i
-decreases-loop-i l = length l.initial.ws / question_width - l.i

@@ -1,5 +1,5 @@
--- `question_words::count_rows` meets its contract. The loop's invariant is `CountingWords`: the rows that are left at
--- the cursor are still to be counted. The measure is how many they are.
+-- `question_words::count_rows` meets its contract. The loop's invariant is `CountingWords`: the rows that are left
+-- are still to be counted. The measure is how many they are.
 -- Assumes nothing.
 use lib.ListN.{length}
 use Rattle.cursor.specs.Cursor.{left}

@@ -1,35 +1,37 @@
 -- `question_words::words_number` meets its contract: the plan's checks, check 4 of the rows store and of the questions'
 -- words, then check 5.
 -- Assumes nothing.
-use mathlib.Core.Path.{sym, ◌∙◌}
-use Rattle.lists.proofs.Choice.{answer-here, answer-next, answer-last}
+use mathlib.Core.Path.{sym}
+use Rattle.std.proofs.Common.{rules}
+use Rattle.lists.proofs.Choice.{answer-last}
+use Rattle.refusal.proofs.Answering.{refused-here, passed-next}
 use Rattle.checks.proofs.Checks.{rows_fit}
 use Rattle.question_words.specs.QuestionWords.{words_number}
 use Rattle.question_words.proofs.words_number.Goals as goal
 
-pub returns-then-number-ne0 : goal.returns-then-number-ne0
+pub returns-in_err-plan_number : goal.returns-in_err-plan_number
 unfolding words_number
-returns-then-number-ne0 c = answer-here _ c.plan_number-number.ensures c.if-number-ne0.true
+returns-in_err-plan_number c = refused-here c.in_err-plan_number.field-0.0 _ (search rules) c.in_err-plan_number.ensures
 
-pub returns-then-long-ne0 : goal.returns-then-long-ne0
+pub returns-in_err-rows_length : goal.returns-in_err-rows_length
 unfolding words_number
-returns-then-long-ne0 c =
-    answer-next _ c.plan_number-number.ensures c.if-number-ne0.false
-    (answer-here _ c.rows_length-long.ensures c.if-long-ne0.true)
+returns-in_err-rows_length c =
+    passed-next _ c.in_ok-plan_number.ensures
+    (refused-here c.in_err-rows_length.field-0.0 _ (search rules) c.in_err-rows_length.ensures)
 
-pub returns-then-whole-ne0 : goal.returns-then-whole-ne0
+pub returns-in_err-whole_check : goal.returns-in_err-whole_check
 unfolding words_number
-returns-then-whole-ne0 c =
-    answer-next _ c.plan_number-number.ensures c.if-number-ne0.false
-    (answer-next _ c.rows_length-long.ensures c.if-long-ne0.false
-    (answer-here _ c.whole_check-whole.ensures c.if-whole-ne0.true))
+returns-in_err-whole_check c =
+    passed-next _ c.in_ok-plan_number.ensures
+    (passed-next _ c.in_ok-rows_length.ensures
+    (refused-here c.in_err-whole_check.field-0.0 _ (search rules) c.in_err-whole_check.ensures))
 
 pub rows_unsound-requires : goal.rows_unsound-requires
-rows_unsound-requires c = rows_fit _ _ (sym c.rows_length-long.ensures ∙ c.if-long-ne0.false)
+rows_unsound-requires c = rows_fit _ _ (sym c.in_ok-rows_length.ensures)
 
 pub returns : goal.returns
 unfolding words_number
 returns c =
-    answer-next _ c.plan_number-number.ensures c.if-number-ne0.false
-    (answer-next _ c.rows_length-long.ensures c.if-long-ne0.false
-    (answer-next _ c.whole_check-whole.ensures c.if-whole-ne0.false (answer-last c.rows_unsound.ensures)))
+    passed-next _ c.in_ok-plan_number.ensures
+    (passed-next _ c.in_ok-rows_length.ensures
+    (passed-next _ c.in_ok-whole_check.ensures (answer-last c.rows_unsound.ensures)))

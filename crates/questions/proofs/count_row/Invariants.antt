@@ -1,14 +1,8 @@
--- `questions::count_row` meets its contract. The loop's invariant: the row was counted for the first i questions. The
--- measure is how many questions are left.
+-- `questions::count_row` meets its contract. The loop's invariant: the row was counted for the questions passed.
 -- Assumes nothing.
-use Prim.Native.Nat.{◌-◌}
-use lib.ListN.{length}
 use Rattle.question.specs.Steps.{with_row}
 use Rattle.questions.proofs.Loops.{Changed}
 use Rattle.questions.proofs.count_row.Given as goal
 
-abbrev pub invariant-loop-i : goal.invariant-loop-i
-invariant-loop-i l = Changed (with_row l.r) l.fn.qs l.i l.qs
-
-abbrev pub decreases-loop-i : goal.decreases-loop-i
-decreases-loop-i l = length l.fn.qs - l.i
+abbrev pub invariant-loop-q : goal.invariant-loop-q
+invariant-loop-q l = Changed (with_row l.r) l.fn.qs l.q-index l.qs

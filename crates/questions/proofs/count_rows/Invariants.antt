@@ -1,5 +1,5 @@
--- `questions::count_rows` meets its contract. The loop's invariant is `Counting`: the rows that are left at the cursor
--- are still to be counted. The measure is how many they are.
+-- `questions::count_rows` meets its contract. The loop's invariant is `Counting`: the rows that are left are still to
+-- be counted. The measure is how many they are.
 -- Assumes nothing.
 use lib.ListN.{length}
 use Rattle.cursor.specs.Cursor.{left}

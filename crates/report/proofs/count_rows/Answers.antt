@@ -1,5 +1,5 @@
 -- `report::count_rows` meets its contract. The loop's invariant is `CountedTo`: the rows of the lanes before lane i are
--- counted. The measure is how many lanes are left. Assumes nothing.
+-- counted. Assumes nothing.
 use mathlib.Core.Path.{◌≡◌, sym, ap, ◌∙◌}
 use native.Mathlib.Omega.{arith}
 use Rattle.part.specs.Part.{counted}
@@ -20,7 +20,7 @@ loop-i-init c =
 pub partition-requires : goal.partition-requires
 partition-requires c =
     rw c.row_room-room.ensures
-    (partition-inside c.args.p c.args.rows.now c.requires c.loop-i.i c.loop-i-test.true)
+    (partition-inside c.args.p c.args.rows.now c.requires c.loop-i.i (omega arith))
 
 pub count-count-requires : goal.count-count-requires
 count-count-requires c =
@@ -29,7 +29,7 @@ count-count-requires c =
     c.partition.result.now ≡ row_part a.p a.rows.now at.i) =
     rw c.row_room-room.ensures at c.partition.ensures in
     rw partition-is
-    (omega (arith, partition-room c.args.p c.args.rows.now c.requires c.loop-i.i c.loop-i-test.true))
+    (omega (arith, partition-room c.args.p c.args.rows.now c.requires c.loop-i.i (omega arith)))
 
 pub overflow_add-count : goal.overflow_add-count
 overflow_add-count c =
@@ -46,7 +46,7 @@ overflow_add-count c =
       arith,
       partition-count,
       counted-most (λ i. counted (row_part a.p a.rows.now i)) a.p.count c.loop-i.i c.loop-i.count
-          c.loop-i-test.true c.loop-i.invariant,
+          (omega arith) c.loop-i.invariant,
       row-count a.p a.rows.now,
       rows-most a.p a.rows.now c.requires,
     )
@@ -64,11 +64,11 @@ loop-i-preserved c =
     let a = c.args in
     rw partition-count
     (counted-more (λ i. counted (row_part a.p a.rows.now i)) a.p.count c.loop-i.i c.loop-i.count
-    c.loop-i-test.true c.loop-i.invariant)
+    (omega arith) c.loop-i.invariant)
 
 pub returns : goal.returns
 returns c =
     let a = c.args in
     counted-all (λ i. counted (row_part a.p a.rows.now i)) a.p.count c.loop-i.i c.loop-i.count
-    c.loop-i-test.false
+    (omega arith)
     c.loop-i.invariant ∙ sym (row-count a.p a.rows.now)

@@ -37,13 +37,13 @@ returns c =
     c.used_tuples-b.ensures
     c.used_rows-c.ensures
     _ _ _
-    c.change-done.auto.outer
-    c.change-done.auto.inner
-    c.change-done.auto.rows
+    c.change.auto.outer
+    c.change.auto.inner
+    c.change.auto.rows
     a.word
     c.plan_of-p.result
     a.t
-    c.change-done.result
+    c.change.result
     (not-false a.s.complete c.if-not-s.false)
     c.plan_of-p.ensures
-    (called-as a.word _ _ _ _ _ _ _ c.kind_of-kind.ensures c.side_of-side.ensures c.change-done.ensures)
+    (called-as a.word _ _ _ _ _ _ _ c.kind_of-kind.ensures c.side_of-side.ensures c.change.ensures)

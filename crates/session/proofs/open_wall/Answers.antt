@@ -28,10 +28,10 @@ returns c =
     c.used_tuples-b.ensures
     c.used_rows-c.ensures
     _ _ _
-    c.open-answer.auto.outer
-    c.open-answer.auto.inner
-    c.open-answer.auto.rows
+    c.open.auto.outer
+    c.open.auto.inner
+    c.open.auto.rows
     c.plan_of-p.result
-    c.open-answer.result
+    c.open.result
     c.plan_of-p.ensures
-    c.open-answer.ensures
+    c.open.ensures

@@ -11,4 +11,4 @@ returns-then-complete c =
 pub returns : goal.returns
 returns c =
     let a = c.args in
-    least-open a.s a.minimum c.minimum_check.result c.if-complete.false c.minimum_check.ensures
+    least-open a.s a.minimum _ c.if-complete.false c.minimum_check.ensures

@@ -1,7 +1,6 @@
 -- `soundness::records_between` meets its contract. The loop's invariant: the records from k on decide.
 -- Assumes nothing.
 use mathlib.Core.Path.{◌≡◌}
-use Prim.Native.Nat.{◌-◌}
 use lib.ListN.{drop}
 use Rattle.lists.specs.Members.{all}
 use Rattle.lists.specs.Words.{records_of}
@@ -11,6 +10,3 @@ use Rattle.soundness.proofs.records_between.Given as goal
 abbrev pub invariant-loop-k : goal.invariant-loop-k
 invariant-loop-k l = all (record_between l.kind l.first.0 l.last.0) (records_of (width_of l.kind) l.n (drop 1 l.part))
     ≡ all (record_between l.kind l.first.0 l.last.0) (drop l.k (records_of (width_of l.kind) l.n (drop 1 l.part)))
-
-abbrev pub decreases-loop-k : goal.decreases-loop-k
-decreases-loop-k l = l.n - l.k

@@ -62,8 +62,8 @@ slice_bounds-finish_plain-end c =
     sym (length-take-le _ _ within) in
     counted
 
-pub finish_plain-bytes-requires : goal.finish_plain-bytes-requires
-finish_plain-bytes-requires c =
+pub finish_plain-requires : goal.finish_plain-requires
+finish_plain-requires c =
     let rest-is : take c.put_rest-n.result c.put_rest-n.new.rest
     ≡ rest_text c.args.s =
     rest-taken _ _ _ _ c.put_rest-n.ensures
@@ -79,4 +79,4 @@ returns c =
     ≡ rest_text c.args.s =
     rest-taken _ _ _ _ c.put_rest-n.ensures
     ∙ rest-counted c.args.s.lines c.args.s.kept c.args.s.line (omega (arith, c.well_formed.0.1.1.1.1.1.0.1.0.1)) in
-    finish-without _ _ _ c.if-out-lt-FINISH_BYTES.false _ rest-is c.if-session.false _ _ c.finish_plain-bytes.ensures
+    finish-without _ _ _ c.if-out-lt-FINISH_BYTES.false _ rest-is c.if-session.false _ _ c.finish_plain.ensures

@@ -9,20 +9,20 @@ use Rattle.stream.proofs.keep.Goals as goal
 
 pub slice_bounds-put_bytes-end-2 : goal.slice_bounds-put_bytes-end-2
 slice_bounds-put_bytes-end-2 c =
-    let within : length (take c.room_for-n.result c.args.bytes.now) ≡ c.room_for-n.result =
-    length-take-le _ _ (omega (arith, c.room_for-n.ensures)) in
+    let within : length (take c.min-n.result c.args.bytes.now) ≡ c.min-n.result =
+    length-take-le _ _ (omega (arith, c.min-n.ensures)) in
     sym within
 
 pub put_bytes-requires : goal.put_bytes-requires
 put_bytes-requires c =
     let fits : Fits c.args.s =
     record { most = c.requires; long = c.well_formed.0.1.1.1.1.1.0.1.0.1 } in
-    let within : length (take c.room_for-n.result c.args.bytes.now) ≡ c.room_for-n.result =
-    length-take-le _ _ (omega (arith, c.room_for-n.ensures)) in
-    omega (arith, within, c.room_for-n.ensures, fits.most, fits.long)
+    let within : length (take c.min-n.result c.args.bytes.now) ≡ c.min-n.result =
+    length-take-le _ _ (omega (arith, c.min-n.ensures)) in
+    omega (arith, within, c.min-n.ensures, fits.most, fits.long)
 
 pub returns : goal.returns
 returns c =
     let fits : Fits c.args.s =
     record { most = c.requires; long = c.well_formed.0.1.1.1.1.1.0.1.0.1 } in
-    keep-is c.args.s c.args.bytes.now fits _ c.room_for-n.ensures _ _ c.put_bytes.ensures
+    keep-is c.args.s c.args.bytes.now fits _ c.min-n.ensures _ _ c.put_bytes.ensures

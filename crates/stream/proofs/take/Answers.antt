@@ -11,5 +11,5 @@ returns-then-out-part c = taken_refused _ _ _ _ (take_short _ _ _ c.if-out-part.
 
 pub returns : goal.returns
 returns c =
-    taken-whole _ _ _ _ _ _ _ c.take_lines.ensures.number_value (take_whole _ _ _ c.if-kept-gt-KEPT_BYTES.false c.if-out-part.false)
-    c.take_lines.ensures.part_taken
+    taken-whole _ _ _ _ _ _ _ (take_whole _ _ _ c.if-kept-gt-KEPT_BYTES.false c.if-out-part.false)
+    c.take_lines.ensures

@@ -77,7 +77,4 @@ slice_bounds-keep-count-2 c = omega (arith, c.loop-end.invariant.0.within)
 pub returns : goal.returns
 returns c =
     let at = c.loop-end in
-    record {
-      number_value = refl;
-      part_taken = doing_end _ _ _ _ _ _ _ _ _ _ at.invariant.0 (omega arith) _ c.keep-reading.ensures;
-    }
+    doing_end _ _ _ _ _ _ _ _ _ _ at.invariant.0 (omega arith) _ c.keep-reading.ensures

@@ -8,6 +8,6 @@ pub returns-then-item-gt-ITEM_END : goal.returns-then-item-gt-ITEM_END
 unfolding item_check
 returns-then-item-gt-ITEM_END c = simp (lt-ltb _ _ c.if-item-gt-ITEM_END.true)
 
-pub returns-else-item-gt-ITEM_END : goal.returns-else-item-gt-ITEM_END
+pub returns : goal.returns
 unfolding item_check
-returns-else-item-gt-ITEM_END c = simp (le-ltb _ _ c.if-item-gt-ITEM_END.false)
+returns c = simp (le-ltb _ _ c.if-item-gt-ITEM_END.false)

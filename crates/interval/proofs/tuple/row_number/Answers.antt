@@ -1,32 +1,29 @@
--- `interval::tuple::row_number` meets its contract: each check's number where it is not 0, else those after it.
+-- `interval::tuple::row_number` meets its contract: each check's number where it refuses, else those after it.
 -- Assumes nothing.
-use Rattle.lists.proofs.Choice.{answer-here, answer-next, answer-last}
+use Rattle.std.proofs.Common.{rules}
+use Rattle.lists.proofs.Choice.{answer-last}
+use Rattle.refusal.proofs.Answering.{refused-here, passed-next}
 use Rattle.interval.specs.Tuple.{row_number}
 use Rattle.interval.proofs.tuple.row_number.Goals as goal
 
-pub returns-then-label-ne0 : goal.returns-then-label-ne0
+pub returns-in_err-label_check : goal.returns-in_err-label_check
 unfolding row_number
-returns-then-label-ne0 c = answer-here _ c.label_check-label.ensures c.if-label-ne0.true
+returns-in_err-label_check c = refused-here c.in_err-label_check.field-0.0 _ (search rules) c.in_err-label_check.ensures
 
-pub returns-then-outer-ne0 : goal.returns-then-outer-ne0
+pub returns-in_err-item_check : goal.returns-in_err-item_check
 unfolding row_number
-returns-then-outer-ne0 c =
-    answer-next _ c.label_check-label.ensures c.if-label-ne0.false
-    (answer-here _ c.item_check-outer.ensures c.if-outer-ne0.true)
+returns-in_err-item_check c =
+    passed-next _ c.in_ok-label_check.ensures (refused-here c.in_err-item_check.field-0.0 _ (search rules) c.in_err-item_check.ensures)
 
-pub returns-then-inner-ne0 : goal.returns-then-inner-ne0
+pub returns-in_err-item_check-2 : goal.returns-in_err-item_check-2
 unfolding row_number
-returns-then-inner-ne0 c =
-    answer-next _ c.label_check-label.ensures
-    c.if-label-ne0.false
-    (answer-next _ c.item_check-outer.ensures c.if-outer-ne0.false
-    (answer-here _ c.item_check-inner.ensures c.if-inner-ne0.true))
+returns-in_err-item_check-2 c =
+    passed-next _ c.in_ok-label_check.ensures
+    (passed-next _ c.in_ok-item_check.ensures (refused-here c.in_err-item_check-2.field-0.0 _ (search rules) c.in_err-item_check-2.ensures))
 
 pub returns : goal.returns
 unfolding row_number
 returns c =
-    answer-next _ c.label_check-label.ensures
-    c.if-label-ne0.false
-    (answer-next _ c.item_check-outer.ensures c.if-outer-ne0.false
-    (answer-next _ c.item_check-inner.ensures c.if-inner-ne0.false
-    (answer-last c.valid_check.ensures)))
+    passed-next _ c.in_ok-label_check.ensures
+    (passed-next _ c.in_ok-item_check.ensures
+    (passed-next _ c.in_ok-item_check-2.ensures (answer-last c.valid_check.ensures)))

@@ -1,5 +1,5 @@
 -- `report::text::put_partition` meets its contract. The loop's invariant is `Left`: the lines of the rows from place k
--- on are left to put. The measure is how many rows are left. Assumes nothing.
+-- on are left to put. Assumes nothing.
 use mathlib.Core.List.{◌++◌}
 use mathlib.Core.Path.{◌≡◌, sym, ◌∙◌}
 use Prim.Native.Nat.{◌+◌, ◌<◌}
@@ -19,50 +19,50 @@ loop-k-init c =
     let a = c.args in
     left-start a.at (partition_text a.partition a.part.now) a.out.now
 
-pub row_at-requires : goal.row_at-requires
-row_at-requires c = omega (arith, c.count-n.ensures, c.loop-k-test.true, c.requires.part_in_bounds)
+pub record_at-requires : goal.record_at-requires
+record_at-requires c = omega (arith, c.count-n.ensures, c.requires.part_in_bounds)
 
 pub put_row-next-requires : goal.put_row-next-requires
 put_row-next-requires c =
     let next-line : (let at = c.loop-k in
     let a = c.args in
     Left a.at (partition_text a.partition a.part.now) a.out.now at.next
-    (row_line a.partition c.row_at.result
+    (row_line a.partition c.record_at.result
     ++ gather (row_line a.partition) (drop (at.k + 1) (rows_in a.part.now)))
     at.out) =
     let a = c.args in
-    let row = c.row_at.result in
+    let row = c.record_at.result in
     let short : c.loop-k.k < counted a.part.now =
-    omega (arith, c.count-n.ensures, c.loop-k-test.true) in
+    omega (arith, c.count-n.ensures) in
     let here : get_or (rows_in a.part.now) c.loop-k.k row ≡ row =
-    row_in c.loop-k.k a.part.now row short ∙ sym c.row_at.ensures in
+    row_in c.loop-k.k a.part.now row short ∙ sym c.record_at.ensures in
     rw (gather-next (row_line a.partition) (rows_in a.part.now) c.loop-k.k row
     (omega (arith, length-rows a.part.now)) here) at c.loop-k.invariant in
     let a = c.args in
     left-room a.at (partition_text a.partition a.part.now) a.out.now c.requires.part_in_bounds_2 c.loop-k.next
     c.loop-k.out
-    (row_line a.partition c.row_at.result) _ next-line
+    (row_line a.partition c.record_at.result) _ next-line
 
 pub loop-k-preserved : goal.loop-k-preserved
 loop-k-preserved c =
     let next-line : (let at = c.loop-k in
     let a = c.args in
     Left a.at (partition_text a.partition a.part.now) a.out.now at.next
-    (row_line a.partition c.row_at.result
+    (row_line a.partition c.record_at.result
     ++ gather (row_line a.partition) (drop (at.k + 1) (rows_in a.part.now)))
     at.out) =
     let a = c.args in
-    let row = c.row_at.result in
+    let row = c.record_at.result in
     let short : c.loop-k.k < counted a.part.now =
-    omega (arith, c.count-n.ensures, c.loop-k-test.true) in
+    omega (arith, c.count-n.ensures) in
     let here : get_or (rows_in a.part.now) c.loop-k.k row ≡ row =
-    row_in c.loop-k.k a.part.now row short ∙ sym c.row_at.ensures in
+    row_in c.loop-k.k a.part.now row short ∙ sym c.record_at.ensures in
     rw (gather-next (row_line a.partition) (rows_in a.part.now) c.loop-k.k row
     (omega (arith, length-rows a.part.now)) here) at c.loop-k.invariant in
     let a = c.args in
     left-more a.at (partition_text a.partition a.part.now) a.out.now c.requires.part_in_bounds_2 c.loop-k.next
     c.loop-k.out
-    (row_line a.partition c.row_at.result) _ _ _ next-line c.put_row-next.ensures
+    (row_line a.partition c.record_at.result) _ _ _ next-line c.put_row-next.ensures
 
 pub shape_of-out : goal.shape_of-out
 shape_of-out c = c.loop-k.invariant.long
@@ -72,7 +72,7 @@ returns c =
     let a = c.args in
     let none =
     gather-end (row_line a.partition) (rows_in a.part.now) c.loop-k.k
-    (omega (arith, length-rows a.part.now, c.count-n.ensures, c.loop-k-test.false)) in
+    (omega (arith, length-rows a.part.now, c.count-n.ensures)) in
     left_end a.at (partition_text a.partition a.part.now) a.out.now c.requires.part_in_bounds_2 c.loop-k.next
     c.loop-k.out
     (rw none at c.loop-k.invariant)

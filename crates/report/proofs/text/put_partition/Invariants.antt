@@ -1,6 +1,5 @@
 -- `report::text::put_partition` meets its contract. The loop's invariant is `Left`: the lines of the rows from place k
--- on are left to put. The measure is how many rows are left. Assumes nothing.
-use Prim.Native.Nat.{◌-◌}
+-- on are left to put. Assumes nothing.
 use lib.ListN.{drop}
 use Rattle.lists.specs.Members.{gather}
 use Rattle.part.specs.Part.{rows_in}
@@ -12,6 +11,3 @@ abbrev pub invariant-loop-k : goal.invariant-loop-k
 invariant-loop-k l =
     Left l.at (partition_text l.partition l.part) l.initial.out l.next
     (gather (row_line l.partition) (drop l.k (rows_in l.part))) l.out
-
-abbrev pub decreases-loop-k : goal.decreases-loop-k
-decreases-loop-k l = l.n - l.k

@@ -1,5 +1,5 @@
 -- `report::text::put_partitions` meets its contract. The loop's invariant is `Left`: the lines of the lanes from lane i
--- on are left to put. The measure is how many lanes are left. Assumes nothing.
+-- on are left to put. Assumes nothing.
 use mathlib.Core.List.{List, ◌++◌}
 use mathlib.Core.Path.{◌≡◌}
 use Prim.Native.Nat.{ℕ, ◌+◌, ◌-◌}
@@ -24,12 +24,12 @@ loop-i-init c =
     rw sub-zero (left-start a.at (partitions_text a.p a.rows.now) a.out.now)
 
 pub overflow_add-i : goal.overflow_add-i
-overflow_add-i c = omega (arith, c.loop-i-test.true, (legal-plan c.args.p c.requires.sound_store.legal).most)
+overflow_add-i c = omega (arith, (legal-plan c.args.p c.requires.sound_store.legal).most)
 
 pub partition-requires : goal.partition-requires
 partition-requires c =
     rw c.row_room-room.ensures
-    (partition-inside c.args.p c.args.rows.now c.requires.sound_store c.loop-i.i c.loop-i-test.true)
+    (partition-inside c.args.p c.args.rows.now c.requires.sound_store c.loop-i.i (omega arith))
 
 pub put_partition-next-requires : goal.put_partition-next-requires
 put_partition-next-requires c =
@@ -41,14 +41,14 @@ put_partition-next-requires c =
     let at = c.loop-i in
     let a = c.args in
     let lines : ℕ → List ℕ = λ i. partition_text (i + 1) (row_part a.p a.rows.now i) in
-    rw (partitions-next lines a.p.count at.i c.loop-i-test.true) at at.invariant in
+    rw (partitions-next lines a.p.count at.i (omega arith)) at at.invariant in
     let partition-is : (let at = c.loop-i in
     let a = c.args in
     c.partition.result.now ≡ row_part a.p a.rows.now at.i) =
     rw c.row_room-room.ensures at c.partition.ensures in
     let a = c.args in
     rw partition-is (record {
-      part_in_bounds = partition-room a.p a.rows.now c.requires.sound_store c.loop-i.i c.loop-i-test.true;
+      part_in_bounds = partition-room a.p a.rows.now c.requires.sound_store c.loop-i.i (omega arith);
       part_in_bounds_2 = left-room a.at (partitions_text a.p a.rows.now) a.out.now c.requires.rows_in_bounds c.loop-i.next
           c.loop-i.out (partition_text (c.loop-i.i + 1) (row_part a.p a.rows.now c.loop-i.i)) _
           next-partition;
@@ -64,7 +64,7 @@ loop-i-preserved c =
     let at = c.loop-i in
     let a = c.args in
     let lines : ℕ → List ℕ = λ i. partition_text (i + 1) (row_part a.p a.rows.now i) in
-    rw (partitions-next lines a.p.count at.i c.loop-i-test.true) at at.invariant in
+    rw (partitions-next lines a.p.count at.i (omega arith)) at at.invariant in
     let partition-is : (let at = c.loop-i in
     let a = c.args in
     c.partition.result.now ≡ row_part a.p a.rows.now at.i) =
@@ -81,6 +81,6 @@ pub returns : goal.returns
 returns c =
     let a = c.args in
     let lines : ℕ → List ℕ = λ i. partition_text (i + 1) (row_part a.p a.rows.now i) in
-    let none = partitions-none lines a.p.count c.loop-i.i c.loop-i-test.false in
+    let none = partitions-none lines a.p.count c.loop-i.i (omega arith) in
     left_end a.at (partitions_text a.p a.rows.now) a.out.now c.requires.rows_in_bounds c.loop-i.next c.loop-i.out
     (rw none at c.loop-i.invariant)

@@ -1,5 +1,5 @@
 -- `report::text::put_partitions` meets its contract. The loop's invariant is `Left`: the lines of the lanes from lane i
--- on are left to put. The measure is how many lanes are left. Assumes nothing.
+-- on are left to put. Assumes nothing.
 use Prim.Native.Nat.{◌+◌, ◌-◌}
 use Rattle.lists.specs.Members.{gather, up_from}
 use Rattle.store.specs.Store.{row_part}
@@ -8,8 +8,5 @@ use Rattle.report.specs.Text.{partition_text, partitions_text}
 use Rattle.report.proofs.text.put_partitions.Given as goal
 
 abbrev pub invariant-loop-i : goal.invariant-loop-i
-invariant-loop-i l = Left l.at (partitions_text l.p l.rows) l.initial.out l.next
-    (gather (λ i. partition_text (i + 1) (row_part l.p l.rows i)) (up_from l.i (l.p.count - l.i))) l.out
-
-abbrev pub decreases-loop-i : goal.decreases-loop-i
-decreases-loop-i l = l.p.count - l.i
+invariant-loop-i l = Left l.at (partitions_text l.fn.p l.rows) l.initial.out l.next
+    (gather (λ i. partition_text (i + 1) (row_part l.fn.p l.rows i)) (up_from l.i (l.fn.p.count - l.i))) l.out
