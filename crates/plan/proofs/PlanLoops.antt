@@ -1,14 +1,16 @@
 -- The loop of `plan::covers`, which goes up the cuts in use.
--- In order: the cuts in use; what the loop has still to see; `Rising`, its invariant, with its laws.
+-- In order: the cuts in use; what the loop has still to see; `Rising`, its invariant, with its laws; `Spliced`, what
+-- new cuts put in one by one leave, with its laws.
 -- Assumes nothing.
 use mathlib.Core.Bool.{false}
-use mathlib.Core.List.{List, ◌∷◌}
+use mathlib.Core.List.{List, [], ◌∷◌, ◌++◌}
 use mathlib.Core.Logic.{⊎_elim}
 use mathlib.Core.Path.{◌≡◌, refl, sym, ◌∙◌, ap}
-use Prim.Native.Nat.{ℕ, suc, ◌+◌, ◌-◌, ◌≤◌, ◌<◌, min}
+use Prim.Native.Nat.{ℕ, zero, suc, ◌+◌, ◌-◌, ◌≤◌, ◌<◌, min}
+use native.Mathlib.Nat.{suc-add}
 use native.Mathlib.Numerals.{add-one}
 use native.Mathlib.Omega.{arith}
-use lib.ListN.{length, get_or, take, drop, length-take, length-map, drop_of_length-le}
+use lib.ListN.{length, get_or, take, drop, set, length-take, length-map, drop_of_length-le}
 use lib.Seq.{drop-cons, take_all}
 use lib.Dec.{eqb}
 use Rattle.std.proofs.lemmas.List.{take-map}
@@ -113,3 +115,62 @@ module _ (lasts : List Chronon) (used i : ℕ) (r : Rising lasts used i) where
   rising-end l =
       rw (← number_at used lasts i r.within)
       (sym (r.left ∙ cover-end (in_use used lasts) i (omega (arith, cuts-long))))
+
+-- ---- new last chronons put into the first places, one after the other. `with_cuts` copies them at once, and no proof
+-- goes through these laws: they say that it comes to the same, and docs/TRACE.md cites them
+
+pub record Spliced (new old : List Chronon) (used i : ℕ) (lasts : List Chronon) : Type 0 where
+  pub long : length new ≡ most_partitions
+  pub long-old : length old ≡ most_partitions
+  pub few : used ≤ most_partitions
+  pub upto : i ≤ used
+  pub mixed : lasts ≡ take i new ++ drop i old
+
+pub spliced-start : (new old : List Chronon) (used : ℕ) → length new ≡ most_partitions → length old ≡ most_partitions
+    → used ≤ most_partitions
+    → Spliced new old used 0 old
+spliced-start new old used a b l =
+    record { long = a; long-old = b; few = l; upto = omega arith; mixed = refl }
+
+-- one place more
+splice : {A : Type 0} (new old : List A) (i : ℕ) (d : A) → i < length new → i < length old
+    → set (take i new ++ drop i old) i (get_or new i d) ≡ take (i + 1) new ++ drop (i + 1) old
+splice [] old i d l m = absurd (omega arith)
+splice (x ∷ new) [] i d l m = absurd (omega arith)
+splice (x ∷ new) (y ∷ old) zero d l m = refl
+splice (x ∷ new) (y ∷ old) (suc i) d l m =
+    simp suc-add (ap (λ r. x ∷ r) (splice new old i d (omega arith) (omega arith)))
+
+pub spliced-step : (new old : List Chronon) (used i : ℕ) (lasts : List Chronon) → i < used
+    → Spliced new old used i lasts
+    → Spliced new old used (i + 1) (set lasts i (get_or new i (record { 0 = 0 })))
+spliced-step new old used i lasts l s = record {
+  long = s.long;
+  long-old = s.long-old;
+  few = s.few;
+  upto = omega arith;
+  mixed =
+      ap (λ (r : List Chronon). set r i (get_or new i (record { 0 = 0 }))) s.mixed
+      ∙ splice new old i (record { 0 = 0 }) (omega (arith, s.long, s.few)) (omega (arith, s.long-old, s.few));
+}
+
+-- past 64 all places are new
+pub spliced-end : (new old : List Chronon) (used count i : ℕ) (lasts : List Chronon)
+    → used ≡ min count most_partitions → used ≤ i
+    → Spliced new old used i lasts → lasts ≡ take count new ++ drop count old
+spliced-end new old used count i lasts is g s =
+    let e : i ≡ used = omega (arith, s.upto) in
+    s.mixed ∙ ap (λ (k : ℕ). take k new ++ drop k old) e ∙ ⊎_elim few many (le-or-lt count most_partitions)
+  where
+    few : count ≤ most_partitions → take used new ++ drop used old ≡ take count new ++ drop count old
+    few l = let same : used ≡ count = omega arith in rw same
+
+    many : most_partitions < count → take used new ++ drop used old ≡ take count new ++ drop count old
+    many l =
+        let same : used ≡ most_partitions = omega arith in
+        rw (
+          take_all used new (omega (arith, s.long)),
+          take_all count new (omega (arith, s.long)),
+          drop_of_length-le old {i = used} (omega (arith, s.long-old)),
+          drop_of_length-le old {i = count} (omega (arith, s.long-old)),
+        )
