@@ -1,4 +1,5 @@
--- The place is within the text. The measure is what is left of the text: a call that moves bytes moves at least one.
+-- The place is within the text. The measure is what is left of the text: where a call moves no byte the loop ends, so a
+-- turn that goes on has moved at least one.
 use Rattle.std.proofs.Common.{length, ◌-◌, ◌≤◌}
 use Rattle.wall.proofs.channel.write_all.Given as goal
 
