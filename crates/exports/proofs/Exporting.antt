@@ -1,7 +1,9 @@
--- Laws of exported calls: what a call leaves where the lengths are right; and its promise for what the words say.
+-- Laws of exported calls: what a call leaves, refused for a length and called; and its promise for what the words say.
+-- What a call leaves that is refused for a length the check finds alone: `exported-refused` and `requirements-refused`
+-- say it for docs/TRACE.md, which cites them.
 -- Assumes nothing.
 use mathlib.Core.Bool.{Bool, true, false}
-use mathlib.Core.List.{List}
+use mathlib.Core.List.{List, [], ◌∷◌}
 use mathlib.Core.Path.{◌≡◌, refl, sym, ◌∙◌, ap, subst}
 use Prim.Native.Nat.{ℕ}
 use lib.ListN.{length}
@@ -15,7 +17,7 @@ use Rattle.std.specs.Prelude.{Ok, Err, is_err}
 use Rattle.std.proofs.lemmas.Bool.{false≢true}
 use Rattle.refusal.specs.Refusal.{answer_number}
 use Rattle.refusal.proofs.Answering.{number-above}
-use Rattle.checks.specs.Stores.{Stores}
+use Rattle.checks.specs.Stores.{Stores, Says}
 use Rattle.checks.specs.Answer.{Answer}
 use Rattle.join.specs.Opening.{Opened}
 use Rattle.join.specs.Changes.{Changed}
@@ -25,14 +27,27 @@ use Rattle.join.specs.declared.Kind.{Kind}
 use Rattle.requirements.specs.Requirements.{RequirementsOf}
 use Rattle.sweep_count.specs.Required.{Requirements}
 use Rattle.layout.specs.Layout.{plan_words, plan_in, words_of, told, refusal, answer_fits, requirements_fit}
-use Rattle.layout.specs.Layout.{lent_number, requirements_in}
+use Rattle.layout.specs.Layout.{lent_number, requirements_in, no_requirements}
 use Rattle.layout.proofs.Lent.{lent_fits}
 use Rattle.layout.proofs.Words.{put_lasts, plan-put-cuts}
 use Rattle.exports.specs.Exports.{Exported, ChangeExported, RequirementsExported}
 
 -- ---- the call
 
+-- a refusal's words
+said-refusal : (a : Answer) (n : ℕ) → Says a n → words_of a ≡ refusal n
+said-refusal a n s = λ k. s.0 k ∷ (s.1.0 k ∷ (s.1.1 k ∷ []))
+
 module _ {Kept : Type 0} {Done : Answer → Type 0} (lent : ℕ) (buffer : List ℕ) where
+  -- a length is wrong: the answer says so, where it has three words
+  pub exported-refused : (buffer' : List ℕ) (m n : ℕ) (a : Answer) → m ≡ lent → (m ≡ 0 → ⊥) → Says a m
+      → (buffer' ≡ told buffer (words_of a)) × (n ≡ answer_number a) → Kept
+      → Exported words_of refusal lent buffer buffer' n Kept Done
+  exported-refused buffer' m n a e ne s t k = record {
+    refused = λ z. (t.1 ∙ s.0 ∙ e, t.0 ∙ ap (told buffer) (said-refusal a m s ∙ ap refusal e), k);
+    called = λ z. absurd (ne (e ∙ z));
+  }
+
   -- the lengths are right: a is the answer
   pub exported-called : (buffer' : List ℕ) (n : ℕ) (a : Answer) → 0 ≡ lent → answer_fits buffer ≡ true
       → (buffer' ≡ told buffer (words_of a)) × (n ≡ answer_number a) → Done a
@@ -44,6 +59,14 @@ module _ {Kept : Type 0} {Done : Answer → Type 0} (lent : ℕ) (buffer : List 
 
 -- the same of what a sweep requires, told in four words
 module _ (plan outer inner report answer : List ℕ) where
+  pub requirements-refused : (answer' : List ℕ) (m n : ℕ) → m ≡ lent_number plan (requirements_fit answer)
+      → (m ≡ 0 → ⊥) → (answer' ≡ told answer (no_requirements m)) × (n ≡ m)
+      → RequirementsExported plan outer inner report answer report answer' n
+  requirements-refused answer' m n e ne t = record {
+    refused = λ z. (t.1 ∙ e, t.0 ∙ ap (λ (k : ℕ). told answer (no_requirements k)) e, refl);
+    called = λ z. absurd (ne (e ∙ z));
+  }
+
   pub requirements-called : (report' answer' : List ℕ) (p : Partitioning) (n : ℕ) (r : Requirements)
       → 0 ≡ lent_number plan (requirements_fit answer) → p ≡ plan_in plan
       → (answer' ≡ told answer (requirements_in r)) × (n ≡ answer_number r)
