@@ -205,16 +205,39 @@ within-stores from n at ws source target =
 -- ---- the stores of a removal: the last record over record k, then its own words, lent, cleared
 
 pub removed-by : (w k : ℕ) (part once zeroed : List ℕ) → k < counted part → room_of w (counted part) ≤ length part
+    → once ≡ copied w (counted part - 1) k (set part 0 (counted part - 1))
     → (let at = room_of w (counted part - 1) in
-    once ≡ copy_within (set part 0 (counted part - 1)) at (at + w) (room_of w k)
-    → zeroed ≡ replicate (length (part_at at (at + w - at) once)) 0
+    zeroed ≡ replicate (length (part_at at (at + w - at) once)) 0
     → put_mid at (at + w - at) once zeroed ≡ removed w k part)
 unfolding copied removed
 removed-by w k part once zeroed h fits c z =
     rw (z, add-sub_cancel_left at w, length_part at w once inside)
     (sym (stores at w once (replicate w 0) (length-replicate w 0) inside)
     ∙ ap (λ (ws : List ℕ). sets ws at (replicate w 0))
-    (copy ∙ ap (λ (ws : List ℕ). sets (set part 0 n) (room_of w k) (take w ws)) (drop-set-lt at part 0 n (omega arith))))
+    (c ∙ ap (λ (ws : List ℕ). sets (set part 0 n) (room_of w k) (take w ws)) (drop-set-lt at part 0 n (omega arith))))
+  where
+    n : ℕ
+    n = counted part - 1
+
+    at : ℕ
+    at = room_of w (counted part - 1)
+
+    long : length once ≡ length part
+    long = ap length c ∙ simp (length-sets, length-set)
+
+    inside : at + w ≤ length once
+    inside = omega (arith, long, room-last w (counted part) (omega arith))
+
+-- the same, of the words that `copy_within` leaves
+pub removed-within : (w k : ℕ) (part once zeroed : List ℕ) → k < counted part
+    → room_of w (counted part) ≤ length part
+    → (let at = room_of w (counted part - 1) in
+    once ≡ copy_within (set part 0 (counted part - 1)) at (at + w) (room_of w k)
+    → zeroed ≡ replicate (length (part_at at (at + w - at) once)) 0
+    → put_mid at (at + w - at) once zeroed ≡ removed w k part)
+unfolding copied
+removed-within w k part once zeroed h fits c =
+    removed-by w k part once zeroed h fits (c ∙ within-stores at w (room_of w k) (set part 0 n) last over)
   where
     n : ℕ
     n = counted part - 1
@@ -227,9 +250,3 @@ removed-by w k part once zeroed h fits c z =
 
     over : room_of w k + w ≤ length (set part 0 n)
     over = omega (arith, length-set part 0 n, room_within w k (counted part) h)
-
-    copy : once ≡ copied w n k (set part 0 n)
-    copy = c ∙ within-stores at w (room_of w k) (set part 0 n) last over
-
-    inside : at + w ≤ length once
-    inside = omega (arith, last, ap length copy, length-sets (set part 0 n) (room_of w k) (part_at at w (set part 0 n)))

@@ -1,5 +1,5 @@
 -- `records::remove` meets its contract: the last record's words go over record k, and are cleared where they are lent
--- (`removed-by`). Assumes nothing.
+-- (`removed-within`). Assumes nothing.
 use mathlib.Core.List.{List}
 use mathlib.Core.Path.{◌≡◌, ◌∙◌}
 use Prim.Native.Nat.{ℕ, ◌+◌, ◌-◌, ◌≤◌, ◌<◌}
@@ -7,7 +7,7 @@ use native.Mathlib.Omega.{arith}
 use lib.ListN.{length, length-set}
 use Rattle.part.specs.Part.{room_of, counted}
 use Rattle.part.proofs.Parts.{room-last}
-use Rattle.records.proofs.Movers.{removed-by}
+use Rattle.records.proofs.Movers.{removed-within}
 use Rattle.records.proofs.remove.Goals as goal
 
 -- the last record lies within the part
@@ -57,5 +57,5 @@ slice_bounds-fill-end c =
 pub returns : goal.returns
 unfolding counted
 returns c =
-    removed-by c.args.width c.args.k c.args.part.now c.copy_within.new.self c.fill.new.self c.requires.k_bound
+    removed-within c.args.width c.args.k c.args.part.now c.copy_within.new.self c.fill.new.self c.requires.k_bound
     c.requires.part_in_bounds c.copy_within.ensures.after (c.fill.ensures.after λ y e. e)
