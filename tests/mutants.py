@@ -1063,18 +1063,10 @@ WALL = [
     ('session/lib.rt', 'Word::DrawOut => Side::Outer,', 'Word::DrawOut => Side::Inner,'),
     # the text
     ('stream/lib.rt', 'let mut end = lines::place_of(part, LINE_END);', 'let mut end = lines::place_of(part, 13);'),
-    (
-        'refusal_text/lib.rt',
-        'Ok(_) => at,\n        Err(refusal) => put_refusal(out, at, line, refusal.into()),',
-        'Ok(_) => put_refusal(out, at, line, 0),\n        Err(_) => at,',
-    ),
-    (
-        'refusal_text/lib.rt',
-        'put_refusal(out, at, line, refusal.into())',
-        'put_refusal(out, at, refusal.into(), line)',
-    ),
+    ('refusal_text/lib.rt', 'if number == 0 {', 'if number != 0 {'),
+    ('refusal_text/lib.rt', 'put_refusal(out, at, line, number)', 'put_refusal(out, at, number, line)'),
     ('text_end/lib.rt', 'b"rows,0\\n"', 'b"rows,9\\n"'),
-    ('stream/lib.rt', 'put_answer(out, at, lines, stepped)', 'put_answer(out, at, s.lines, stepped)'),
+    ('stream/lib.rt', 'put_answer(out, at, lines, refusal', 'put_answer(out, at, s.lines, refusal'),
     ('stream/lib.rt', 'let reading = keep(read, &part[from..]);', 'let reading = keep(read, &part[0..]);'),
     ('stream/lib.rt', 'let reading = keep(read, &part[from..]);', 'let reading = read;'),
     (

@@ -1,5 +1,5 @@
 -- The calls on words, for hosts: what a call on them leaves. Each promise cites the record of the call itself.
-use Rattle.std.specs.Prelude.{◌&&◌, List, [], ◌≡◌, ℕ, eqb, length, get_or}
+use Rattle.std.specs.Prelude.{◌&&◌, List, ◌≡◌, ℕ, eqb, length, get_or}
 use Rattle.interval.specs.declared.tuple.Tuple.{Tuple}
 use Rattle.plan.specs.Plan.{most_partitions}
 use Rattle.rows.specs.declared.Side.{Side}

@@ -199,10 +199,10 @@ pub extern "C" fn ruthgarwy_requirements(
 {
     let p = match layout::lent_plan(plan, answer.len() == REQUIREMENTS_WORDS) {
         Ok(p) => p,
-        Err(refusal) => return layout::tell_requirements(Err(refusal), answer),
+        Err(refusal) => return layout::tell_size(Err(refusal), answer),
     };
     let r = requirements::of_sweep(p, outer, inner, report);
-    layout::tell_requirements(r, answer)
+    layout::tell_size(r, answer)
 }
 
 // A screenful of questions.

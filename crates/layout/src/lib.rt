@@ -4,7 +4,7 @@
 // A reader or writer of a plan asks for its length by a `requires`; a call tests it first.
 #![tactic(auto)]
 
-ghost use Rattle.std.specs.Prelude.{◌++◌, ◌≡◌, ◌+◌, ◌≤◌, length, take, drop, IfOk};
+ghost use Rattle.std.specs.Prelude.{[], ◌∷◌, ◌++◌, ◌≡◌, ◌+◌, ◌≤◌, length, get_or, take, drop, IfOk};
 ghost use Rattle.refusal.specs.Refusal.{answer_number};
 ghost use Rattle.interval.specs.Tuple.{tuple};
 ghost use Rattle.plan.specs.Plan.{most_partitions, numbers};
@@ -91,36 +91,44 @@ fn words_of(a: Answer) -> [u64; ANSWER_WORDS]
     }
 }
 
+// Writes words into a buffer of as many, and leaves another as it was; answers the first, 0 where there is none.
+pub fn tell_words(words: &[u64], answer: &mut [u64]) -> u64
+    ensures told_words { answer.new ≡ told answer.old words.now }
+    ensures first { result ≡ get_or words.now 0 0 }
+{
+    if answer.len() == words.len() {
+        answer.copy_from_slice(words);
+    }
+    if words.is_empty() {
+        return 0;
+    }
+    words[0]
+}
+
 // Writes an answer's words, where as many are lent; answers its number.
 pub fn tell(a: Answer, answer: &mut [u64]) -> u64
     ensures { (answer.new ≡ told answer.old (words_of a)) × (result ≡ answer_number a) }
 {
     let words = words_of(a);
-    if answer.len() == ANSWER_WORDS {
-        answer.copy_from_slice(&words);
-    }
-    words[0]
+    tell_words(&words, answer)
 }
 
-// The four words of what a sweep requires: the number, each side's need and the pairs.
-fn requirements_in(r: Result<SweepSize, Refusal>) -> [u64; REQUIREMENTS_WORDS]
-    ensures { result ≡ requirements_in r }
+// Writes what a sweep requires, where four words are lent; answers its number.
+pub fn tell_requirements(number: u64, outer: u64, inner: u64, pairs: u64, answer: &mut [u64]) -> u64
+    ensures { (answer.new ≡ told answer.old (number ∷ (outer ∷ (inner ∷ (pairs ∷ [])))))
+        × (result ≡ number) }
 {
-    match r {
-        Ok(size) => [0, size.outer, size.inner, size.pairs],
-        Err(refusal) => [refusal.into(), 0, 0, 0],
-    }
+    tell_words(&[number, outer, inner, pairs], answer)
 }
 
-// Writes what a sweep requires, where as many words are lent; answers its number.
-pub fn tell_requirements(r: Result<SweepSize, Refusal>, answer: &mut [u64]) -> u64
+// The same of what was counted for a sweep, or of its refusal, which has no needs and no pairs.
+pub fn tell_size(r: Result<SweepSize, Refusal>, answer: &mut [u64]) -> u64
     ensures { (answer.new ≡ told answer.old (requirements_in r)) × (result ≡ answer_number r) }
 {
-    let words = requirements_in(r);
-    if answer.len() == REQUIREMENTS_WORDS {
-        answer.copy_from_slice(&words);
+    match r {
+        Ok(size) => tell_requirements(0, size.outer, size.inner, size.pairs, answer),
+        Err(refusal) => tell_requirements(refusal.into(), 0, 0, 0, answer),
     }
-    words[0]
 }
 
 // The plan that a call is lent, given whether the lengths of the other buffers are right; or the number for lengths,

@@ -5,12 +5,10 @@
 #![tactic(auto)]
 
 ghost use Rattle.std.specs.Prelude.{◌≡◌, ◌+◌, ◌≤◌, length};
-ghost use Rattle.refusal.specs.Refusal.{answer_number};
 ghost use Rattle.text_buffer.specs.Buffer.{Put};
 ghost use Rattle.refusal_text.specs.Refusals.{refusal_room, refusal_line, answer_text, next_line};
 
 use lines::{COMMA, LINE_END};
-use refusal::Refusal;
 use text_buffer::{put_bytes, put_number};
 
 // The bytes that a refusal surely fits in.
@@ -37,17 +35,12 @@ pub fn put_refusal(out: &mut [u8], at: usize, line: u64, number: u64) -> usize
 }
 
 // Puts a line's refusal, nothing where it was accepted.
-pub fn put_answer<T: Copy>(
-    out: &mut [u8],
-    at: usize,
-    line: u64,
-    answer: Result<T, Refusal>,
-) -> usize
+pub fn put_answer(out: &mut [u8], at: usize, line: u64, number: u64) -> usize
     requires { at + refusal_room ≤ length out.old }
-    ensures { Put at (answer_text line (answer_number answer)) out.old out.new result }
+    ensures { Put at (answer_text line number) out.old out.new result }
 {
-    match answer {
-        Ok(_) => at,
-        Err(refusal) => put_refusal(out, at, line, refusal.into()),
+    if number == 0 {
+        return at;
     }
+    put_refusal(out, at, line, number)
 }

@@ -102,7 +102,7 @@ fn end_line(
     let line = s.line;
     let stepped = session::step(before, &line[..kept], outer, inner, rows);
     let lines = refusal_text::next_line(s.lines);
-    let bytes = refusal_text::put_answer(out, at, lines, stepped);
+    let bytes = refusal_text::put_answer(out, at, lines, refusal::answer_number(stepped));
     let reading = between_lines(stepped.unwrap_or(before), lines);
     Taken { reading, bytes }
 }

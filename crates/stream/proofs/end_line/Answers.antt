@@ -15,9 +15,9 @@ use Rattle.stream.specs.Taking.{between_lines}
 use Rattle.stream.proofs.Keeping.{Fits}
 use Rattle.stream.proofs.end_line.Goals as goal
 
-as-next : (at n m k : ℕ) (out out' : List ℕ) (r : ℕ) → n ≡ m → Put at (answer_text n k) out out' r
-    → Put at (answer_text m k) out out' r
-as-next at n m k out out' r e p = subst (λ (i : ℕ). Put at (answer_text i k) out out' r) e p
+as-next : (at n m k l : ℕ) (out out' : List ℕ) (r : ℕ) → n ≡ m → k ≡ l → Put at (answer_text n k) out out' r
+    → Put at (answer_text m l) out out' r
+as-next at n m k l out out' r e f p = subst (λ (t : List ℕ). Put at t out out' r) (ap₂ answer_text e f) p
 
 -- the session after a line
 after-is : (s : Session) (r : Stepped) → result_unwrap_or r s ≡ stepped_to s r
@@ -47,5 +47,5 @@ returns c =
           c.between_lines-reading.ensures
           ∙ ap₂ between_lines (c.unwrap_or.ensures ∙ after-is c.args.s.session c.step-stepped.result)
           c.next_line-lines.ensures;
-      text = as-next _ _ _ _ _ _ _ c.next_line-lines.ensures c.put_answer-bytes.ensures;
+      text = as-next _ _ _ _ _ _ _ _ c.next_line-lines.ensures c.answer_number.ensures c.put_answer-bytes.ensures;
     }
