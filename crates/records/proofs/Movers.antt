@@ -13,8 +13,7 @@ use lib.ListN.{length, get_or, take, drop, set, replicate, length-set, length-re
 use lib.Seq.{sets, length-sets, drop-drop, drop-set-lt}
 use borrow.Author.Tests.{ltb-true, ltb-false}
 use borrow.Rule.Slice.PartMut.{put_mid}
-use Rattle.std.proofs.lemmas.List.Edits.{swap_is}
-use Rattle.std.specs.List.{copy_within, swap}
+use Rattle.std.specs.List.{copy_within}
 use Rattle.lists.specs.Words.{part_at}
 use Rattle.lists.proofs.Parts.{Apart, length_part, part-put, part-put-before, part-put-after, get_or-put-before}
 use Rattle.lists.proofs.Parts.{drop-sets, get_or-sets-apart, set-sets-apart, sets-part-more}
@@ -138,15 +137,10 @@ module _ (w i k : ℕ) (part : List ℕ) where
 
   pub swapping-more : (j : ℕ) (now : List ℕ) → room_of w (i + 1) ≤ length part → room_of w (k + 1) ≤ length part → j < w
       → Swapping w i k part j now
-      → Swapping w i k part (j + 1) (swap now (room_of w i + j) (room_of w k + j))
-  swapping-more j now low high h s =
-      sym (swap_is now (room_of w i + j) (room_of w k + j) 0 (omega (arith, long, room_next w i))
-      (omega (arith, long, room_next w k)))
-      ∙ rw (s, unread k, unread i) stored
+      → Swapping w i k part (j + 1)
+      (set (set now (room_of w i + j) (get_or now (room_of w k + j) 0)) (room_of w k + j) (get_or now (room_of w i + j) 0))
+  swapping-more j now low high h s = rw (s, unread k, unread i) stored
     where
-      long : length now ≡ length part
-      long = ap length s ∙ simp length-sets
-
       at_i : ℕ
       at_i = room_of w i
 

@@ -6,9 +6,8 @@ use Rattle.records.proofs.swap.Goals as goal
 pub loop-j-preserved : goal.loop-j-preserved
 loop-j-preserved c =
     let a = c.args in
-    rw c.swap.ensures.after
-    (swapping-more a.width a.a a.b a.part.now c.loop-j.j c.loop-j.part c.requires.a_in_bounds c.requires.b_in_bounds
-    c.loop-j-test.true c.loop-j.invariant)
+    swapping-more a.width a.a a.b a.part.now c.loop-j.j c.loop-j.part c.requires.a_in_bounds c.requires.b_in_bounds
+    c.loop-j-test.true c.loop-j.invariant
 
 pub returns : goal.returns
 returns c =
