@@ -213,7 +213,7 @@ CALLS = [
         'for place in 0..n {',
         'let start = if R::WIDTH == 4 { 1 } else { 0 };\n    for place in start..n {',
     ),
-    ('records/lib.rt', 'words.fill(0);', 'for word in words {\n        *word /= 2;\n    }'),
+    ('records/lib.rt', 'words[i] = 0;', 'words[i] = words[i] / 2;'),
     ('part/lib.rt', 'equal_rows += 1;', 'equal_rows = 1;'),
     # the checks
     ('plan/lib.rt', 'if MOST_PARTITIONS < p.count {', 'if MOST_PARTITIONS + 1 < p.count {'),

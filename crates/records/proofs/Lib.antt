@@ -1,2 +1,3 @@
--- Records moved within a part: their laws, and the invariant of the loop that swaps two.
+-- Records moved within a part, and words cleared: their laws and the loops' invariants.
 pub mod Movers
+pub mod Clearing

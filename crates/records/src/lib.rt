@@ -54,5 +54,7 @@ pub fn remove(part: &mut [u64], width: usize, k: usize)
 pub fn clear(words: &mut [u64])
     ensures { words.new ≡ replicate (length words.old) 0 }
 {
-    words.fill(0);
+    for i in 0..words.len() {
+        words[i] = 0;
+    }
 }
